@@ -5,7 +5,7 @@ use crate::seen::Seen;
 use crate::settling::{
     with_asked, with_class, with_job, with_money, with_piece, with_request, with_ruling,
 };
-use audit_journal::{At, BookFault, Deed, Entry, Form, Journal, Row, place_of};
+use audit_journal::{At, BookFault, CommitKind, Form, Journal, JournalEntry, Row, place_of};
 use audit_tally::{
     Ask, Causes, Doing, Incidents, Job, Jobs, Mishap, Outcome, Piece, Pieces, Place, Sends, Tally,
     Ungranted, entry_of, is_given_again, mishap_at, one_more,
@@ -20,7 +20,7 @@ use trace_nodes::is_told;
 #[derive(Clone, Copy)]
 pub struct Made {
     pub place: Place,
-    pub entry: Entry,
+    pub entry: JournalEntry,
 }
 
 /// What runs came to, by the commits that count and the replies that were reported.
@@ -74,7 +74,7 @@ fn or_memory<T>(made: Result<T, AllocError>) -> Result<T, BookFault> {
 }
 
 // What the commit moved, without its sign.
-fn size_of(entry: &Entry) -> u64
+fn size_of(entry: &JournalEntry) -> u64
     ensures { MatchOption entry.now.amount (result ≡ 0) (λ amount. result ≡ amount.size) }
 {
     match entry.amount {
@@ -111,38 +111,38 @@ fn at_of<'a>(names: &'a [String], place: Place) -> Option<At<'a>> {
 }
 
 // What became of a print, if this was reported of it.
-fn printed(job: u32, line: &[u8]) -> Option<Deed> {
+fn printed(job: u32, line: &[u8]) -> Option<CommitKind> {
     if is_told(&Reply::Printed(job), line) {
-        return Some(Deed::Printed);
+        return Some(CommitKind::Printed);
     }
     if is_told(&Reply::PrinterFault(job), line) {
-        return Some(Deed::PrinterFault);
+        return Some(CommitKind::PrinterFault);
     }
     None
 }
 
 // The entry with all that is known of its node after the line.
-fn completed(entry: &Entry, seen: &Seen) -> Entry {
+fn completed(entry: &JournalEntry, seen: &Seen) -> JournalEntry {
     let paid = with_money(entry, seen);
-    match entry.deed {
-        Deed::Asked => with_asked(&paid, seen),
-        Deed::Ruled | Deed::Settled => with_ruling(&paid, seen),
-        Deed::Made
-        | Deed::Applied
-        | Deed::Debited
-        | Deed::Registered
-        | Deed::Opened
-        | Deed::Deposited
-        | Deed::Suspended
-        | Deed::Resumed
-        | Deed::Ordered
-        | Deed::Held
-        | Deed::Begun
-        | Deed::Printed
-        | Deed::PrinterFault
-        | Deed::Closed
-        | Deed::Trusted
-        | Deed::Accepted => paid,
+    match entry.commit {
+        CommitKind::Asked => with_asked(&paid, seen),
+        CommitKind::Ruled | CommitKind::Settled => with_ruling(&paid, seen),
+        CommitKind::Made
+        | CommitKind::Applied
+        | CommitKind::Debited
+        | CommitKind::Registered
+        | CommitKind::Opened
+        | CommitKind::Deposited
+        | CommitKind::Suspended
+        | CommitKind::Resumed
+        | CommitKind::Ordered
+        | CommitKind::Held
+        | CommitKind::Begun
+        | CommitKind::Printed
+        | CommitKind::PrinterFault
+        | CommitKind::Closed
+        | CommitKind::Trusted
+        | CommitKind::Accepted => paid,
     }
 }
 
@@ -240,8 +240,8 @@ impl Book {
         if !is_told(due, line) {
             return;
         }
-        match (entry.deed, entry.device, entry.piece) {
-            (Deed::Debited, Some(device), Some(piece)) => self.pieces.release(device, piece),
+        match (entry.commit, entry.device, entry.piece) {
+            (CommitKind::Debited, Some(device), Some(piece)) => self.pieces.release(device, piece),
             _ => {}
         }
     }
@@ -261,11 +261,11 @@ impl Book {
     }
 
     // The entry of a debit with its job.
-    fn with_debit(&self, entry: &Entry, doing: &Doing, due: &Reply) -> Entry {
+    fn with_debit(&self, entry: &JournalEntry, doing: &Doing, due: &Reply) -> JournalEntry {
         let Some(job) = self.job_behind(doing, due) else {
             return *entry;
         };
-        let served = Entry {
+        let served = JournalEntry {
             job: Some(job),
             ..*entry
         };
@@ -273,40 +273,43 @@ impl Book {
     }
 
     // The job of the entry.
-    fn job_of(&self, entry: &Entry) -> Option<Job> {
+    fn job_of(&self, entry: &JournalEntry) -> Option<Job> {
         self.jobs.get(entry.job?)
     }
 
     // The piece of the entry.
-    fn piece_of(&self, entry: &Entry) -> Option<Piece> {
+    fn piece_of(&self, entry: &JournalEntry) -> Option<Piece> {
         self.pieces.get(entry.device?, entry.piece?)
     }
 
     // The request that the device of the entry has out.
-    fn request_of(&self, entry: &Entry) -> Option<Ask> {
+    fn request_of(&self, entry: &JournalEntry) -> Option<Ask> {
         self.ask_of(entry.device?)
     }
 
     // The entry with what is known of its job, its piece or its request before the line.
-    fn filled(&self, entry: &Entry, doing: &Doing, due: &Reply) -> Entry {
-        match entry.deed {
-            Deed::Debited => self.with_debit(entry, doing, due),
-            Deed::Applied => with_request(entry, self.request_of(entry)),
-            Deed::Held | Deed::Begun | Deed::Closed => with_job(entry, self.job_of(entry)),
-            Deed::Accepted => with_piece(entry, self.piece_of(entry)),
-            Deed::Made
-            | Deed::Asked
-            | Deed::Registered
-            | Deed::Ruled
-            | Deed::Settled
-            | Deed::Opened
-            | Deed::Deposited
-            | Deed::Suspended
-            | Deed::Resumed
-            | Deed::Ordered
-            | Deed::Printed
-            | Deed::PrinterFault
-            | Deed::Trusted => *entry,
+    fn filled(&self, entry: &JournalEntry, doing: &Doing, due: &Reply) -> JournalEntry {
+        match entry.commit {
+            CommitKind::Debited => self.with_debit(entry, doing, due),
+            CommitKind::Applied => with_request(entry, self.request_of(entry)),
+            CommitKind::Held | CommitKind::Begun | CommitKind::Closed => with_job(
+                entry,
+                self.job_of(entry),
+            ),
+            CommitKind::Accepted => with_piece(entry, self.piece_of(entry)),
+            CommitKind::Made
+            | CommitKind::Asked
+            | CommitKind::Registered
+            | CommitKind::Ruled
+            | CommitKind::Settled
+            | CommitKind::Opened
+            | CommitKind::Deposited
+            | CommitKind::Suspended
+            | CommitKind::Resumed
+            | CommitKind::Ordered
+            | CommitKind::Printed
+            | CommitKind::PrinterFault
+            | CommitKind::Trusted => *entry,
         }
     }
 
@@ -325,22 +328,27 @@ impl Book {
         let filled = self.filled(&entry, doing, due);
         Some(Made {
             place,
-            entry: Entry { day, ..filled },
+            entry: JournalEntry { day, ..filled },
         })
     }
 
     /// What became of the print of this event, if the line reports it: a row that is no commit.
-    pub fn print_told(&mut self, day: Option<DayNo>, doing: &Doing, line: &[u8]) -> Option<Entry> {
+    pub fn print_told(
+        &mut self,
+        day: Option<DayNo>,
+        doing: &Doing,
+        line: &[u8],
+    ) -> Option<JournalEntry> {
         let job = printing(doing)?;
-        let deed = printed(job, line)?;
-        if matches!(deed, Deed::Printed) {
+        let commit = printed(job, line)?;
+        if matches!(commit, CommitKind::Printed) {
             self.jobs.print(job);
         }
-        let entry = Entry {
+        let entry = JournalEntry {
             day,
             number: job,
             job: Some(job),
-            ..Entry::new(Node::Host, deed)
+            ..JournalEntry::new(Node::Host, commit)
         };
         Some(with_job(&entry, self.jobs.get(job)))
     }
@@ -348,7 +356,7 @@ impl Book {
 
 impl Book {
     // Keeps a request.
-    fn keep_ask(&mut self, entry: &Entry) {
+    fn keep_ask(&mut self, entry: &JournalEntry) {
         let (Some(device), Some(kind)) = (entry.device, entry.request) else {
             return;
         };
@@ -361,7 +369,7 @@ impl Book {
     }
 
     // Keeps a piece that was debited.
-    fn keep_debit(&mut self, entry: &Entry) -> Result<(), BookFault> {
+    fn keep_debit(&mut self, entry: &JournalEntry) -> Result<(), BookFault> {
         let postage = size_of(entry);
         add(&mut self.franked, postage);
         let Some(device) = entry.device else {
@@ -378,7 +386,7 @@ impl Book {
     }
 
     // Keeps a piece that was accepted.
-    fn keep_acceptance(&mut self, entry: &Entry) {
+    fn keep_acceptance(&mut self, entry: &JournalEntry) {
         add(&mut self.accepted, size_of(entry));
         let (Some(device), Some(piece)) = (entry.device, entry.piece) else {
             return;
@@ -387,7 +395,7 @@ impl Book {
     }
 
     // Keeps a job that was ordered.
-    fn keep_order(&mut self, entry: &Entry) -> Result<(), BookFault> {
+    fn keep_order(&mut self, entry: &JournalEntry) -> Result<(), BookFault> {
         let (Some(device), Some(piece)) = (entry.device, entry.piece) else {
             return Ok(());
         };
@@ -400,7 +408,7 @@ impl Book {
     }
 
     // Keeps that a job holds the mark of its piece.
-    fn keep_hold(&mut self, entry: &Entry) {
+    fn keep_hold(&mut self, entry: &JournalEntry) {
         one_more(&mut self.held);
         self.jobs.come(entry.number, JobState::Held, entry.day);
         let (Some(device), Some(piece)) = (entry.device, entry.piece) else {
@@ -411,7 +419,7 @@ impl Book {
     }
 
     // Keeps a ruling that grants nothing.
-    fn keep_ruling(&mut self, place: Place, entry: &Entry) -> Result<(), BookFault> {
+    fn keep_ruling(&mut self, place: Place, entry: &JournalEntry) -> Result<(), BookFault> {
         let (Some(device), Some(kind)) = (entry.device, entry.request) else {
             return Ok(());
         };
@@ -440,33 +448,33 @@ impl Book {
     }
 
     // Keeps a commit that counts, which the event of this line made.
-    fn keep(&mut self, place: Place, entry: &Entry) -> Result<(), BookFault> {
-        match entry.deed {
-            Deed::Asked => self.keep_ask(entry),
-            Deed::Debited => return self.keep_debit(entry),
-            Deed::Accepted => self.keep_acceptance(entry),
-            Deed::Ordered => return self.keep_order(entry),
-            Deed::Held => self.keep_hold(entry),
-            Deed::Begun => {
+    fn keep(&mut self, place: Place, entry: &JournalEntry) -> Result<(), BookFault> {
+        match entry.commit {
+            CommitKind::Asked => self.keep_ask(entry),
+            CommitKind::Debited => return self.keep_debit(entry),
+            CommitKind::Accepted => self.keep_acceptance(entry),
+            CommitKind::Ordered => return self.keep_order(entry),
+            CommitKind::Held => self.keep_hold(entry),
+            CommitKind::Begun => {
                 one_more(&mut self.begun);
                 self.jobs.come(entry.number, JobState::Begun, entry.day);
             }
-            Deed::Closed => {
+            CommitKind::Closed => {
                 one_more(&mut self.closed);
                 self.jobs.come(entry.number, JobState::Closed, entry.day);
             }
-            Deed::Ruled => return self.keep_ruling(place, entry),
-            Deed::Made
-            | Deed::Applied
-            | Deed::Registered
-            | Deed::Settled
-            | Deed::Opened
-            | Deed::Deposited
-            | Deed::Suspended
-            | Deed::Resumed
-            | Deed::Printed
-            | Deed::PrinterFault
-            | Deed::Trusted => {}
+            CommitKind::Ruled => return self.keep_ruling(place, entry),
+            CommitKind::Made
+            | CommitKind::Applied
+            | CommitKind::Registered
+            | CommitKind::Settled
+            | CommitKind::Opened
+            | CommitKind::Deposited
+            | CommitKind::Suspended
+            | CommitKind::Resumed
+            | CommitKind::Printed
+            | CommitKind::PrinterFault
+            | CommitKind::Trusted => {}
         }
         Ok(())
     }
@@ -489,7 +497,7 @@ impl Book {
         rt: &HostRuntime,
         names: &[String],
         place: Place,
-        entry: Entry,
+        entry: JournalEntry,
     ) -> Result<(), BookFault> {
         let Some(at) = at_of(names, place) else {
             return Ok(());

@@ -2,7 +2,7 @@
 ghost use Rattle.std.specs.Prelude.{◌≡◌, ◌+◌, ℕ, false, Some, None, IsSomeAnd, MatchBool, MatchOption};
 
 use crate::seen::Seen;
-use audit_journal::{Account, Amount, Entry};
+use audit_journal::{Account, Amount, JournalEntry};
 use audit_tally::{Ask, Job, Piece};
 use bench_base::words::{Kind, Node};
 
@@ -31,7 +31,7 @@ fn moved(before: Option<u64>, after: Option<u64>) -> Option<Amount>
 }
 
 // Whose balance the commit has.
-fn account_of(entry: &Entry) -> Option<Account> {
+fn account_of(entry: &JournalEntry) -> Option<Account> {
     match entry.node {
         Node::Device(device) => Some(Account::Device(device)),
         Node::Centre => match entry.customer {
@@ -43,7 +43,7 @@ fn account_of(entry: &Entry) -> Option<Account> {
 }
 
 // What a commit of a device or of the centre moved. The amounts of the others are known before.
-fn amount_of(entry: &Entry, seen: &Seen) -> Option<Amount> {
+fn amount_of(entry: &JournalEntry, seen: &Seen) -> Option<Amount> {
     match entry.node {
         Node::Device(_) | Node::Centre => moved(seen.before.balance, seen.after.balance),
         Node::Host | Node::Verifier => entry.amount,
@@ -51,12 +51,12 @@ fn amount_of(entry: &Entry, seen: &Seen) -> Option<Amount> {
 }
 
 /// The entry with the customer, and with what it moved.
-pub fn with_money(entry: &Entry, seen: &Seen) -> Entry {
-    let owned = Entry {
+pub fn with_money(entry: &JournalEntry, seen: &Seen) -> JournalEntry {
+    let owned = JournalEntry {
         customer: seen.customer,
         ..*entry
     };
-    Entry {
+    JournalEntry {
         amount: amount_of(&owned, seen),
         account: account_of(&owned),
         balance: seen.after.balance,
@@ -65,9 +65,9 @@ pub fn with_money(entry: &Entry, seen: &Seen) -> Entry {
 }
 
 /// What is asked for: of a refund and of a withdrawal all that the device has left.
-pub fn with_asked(entry: &Entry, seen: &Seen) -> Entry {
+pub fn with_asked(entry: &JournalEntry, seen: &Seen) -> JournalEntry {
     match entry.request {
-        Some(Kind::Refund | Kind::Withdraw) => Entry {
+        Some(Kind::Refund | Kind::Withdraw) => JournalEntry {
             asked: seen.after.balance,
             ..*entry
         },
@@ -84,11 +84,11 @@ fn asked_for(kind: Kind, asked: u64) -> Option<u64> {
 }
 
 /// The entry with the request that was ruled on.
-pub fn with_ruling(entry: &Entry, seen: &Seen) -> Entry
+pub fn with_ruling(entry: &JournalEntry, seen: &Seen) -> JournalEntry
     ensures { MatchOption seen.now.ruling (result ≡ entry.now) (λ r. (result.request ≡ Some r.kind) × (result.verdict ≡ Some r.verdict)) }
 {
     match seen.ruling {
-        Some(ruling) => Entry {
+        Some(ruling) => JournalEntry {
             request: Some(ruling.kind),
             verdict: Some(ruling.verdict),
             asked: asked_for(ruling.kind, ruling.asked),
@@ -99,11 +99,11 @@ pub fn with_ruling(entry: &Entry, seen: &Seen) -> Entry
 }
 
 /// The entry with the request that the device has out.
-pub fn with_request(entry: &Entry, ask: Option<Ask>) -> Entry
+pub fn with_request(entry: &JournalEntry, ask: Option<Ask>) -> JournalEntry
     ensures { MatchOption ask (result ≡ entry.now) (λ a. (result.request ≡ Some a.kind) × (result.asked ≡ a.asked)) }
 {
     match ask {
-        Some(ask) => Entry {
+        Some(ask) => JournalEntry {
             request: Some(ask.kind),
             asked: ask.asked,
             ..*entry
@@ -113,11 +113,11 @@ pub fn with_request(entry: &Entry, ask: Option<Ask>) -> Entry
 }
 
 /// The entry with the piece of the job.
-pub fn with_job(entry: &Entry, job: Option<Job>) -> Entry
+pub fn with_job(entry: &JournalEntry, job: Option<Job>) -> JournalEntry
     ensures { MatchOption job (result ≡ entry.now) (λ j. (result.device ≡ Some j.device) × (result.piece ≡ Some j.piece) × (result.class ≡ Some j.class)) }
 {
     match job {
-        Some(job) => Entry {
+        Some(job) => JournalEntry {
             device: Some(job.device),
             piece: Some(job.piece),
             class: Some(job.class),
@@ -128,11 +128,11 @@ pub fn with_job(entry: &Entry, job: Option<Job>) -> Entry
 }
 
 /// The entry with the job of the piece, its class and its postage.
-pub fn with_piece(entry: &Entry, piece: Option<Piece>) -> Entry
+pub fn with_piece(entry: &JournalEntry, piece: Option<Piece>) -> JournalEntry
     ensures { MatchOption piece (result ≡ entry.now) (λ p. (result.job ≡ p.job) × (result.class ≡ p.class)) }
 {
     match piece {
-        Some(piece) => Entry {
+        Some(piece) => JournalEntry {
             job: piece.job,
             class: piece.class,
             amount: Some(paid(piece.postage)),
@@ -143,9 +143,9 @@ pub fn with_piece(entry: &Entry, piece: Option<Piece>) -> Entry
 }
 
 /// The entry of a debit with the class of the job that it serves, if the event does not have it.
-pub fn with_class(entry: &Entry, job: Option<Job>) -> Entry {
+pub fn with_class(entry: &JournalEntry, job: Option<Job>) -> JournalEntry {
     match (entry.class, job) {
-        (None, Some(job)) => Entry {
+        (None, Some(job)) => JournalEntry {
             class: Some(job.class),
             ..*entry
         },

@@ -1,7 +1,7 @@
 //! What is in the columns of a row.
-use crate::entry::{Account, Amount, At, Deed, Entry, Row};
+use crate::entry::{Account, Amount, At, CommitKind, JournalEntry, Row};
 use crate::texts::date_text;
-use crate::words::{deed_word, kind_word, node_text, verdict_word};
+use crate::words::{commit_word, kind_word, node_text, verdict_word};
 use bench_base::numbers::{Customer, DayNo, DevNo};
 use bench_base::words::{Kind, Verdict};
 use std::alloc::{AllocError, Global};
@@ -87,9 +87,9 @@ fn at_cell(alloc: Global, at: Option<At<'_>>) -> Result<Cell, AllocError> {
 }
 
 /// What the node did, and of a device that asks for what. AllocError is lack of memory.
-pub fn deed_text(alloc: Global, entry: &Entry) -> Result<String, AllocError> {
-    let word = deed_word(entry.deed);
-    let Deed::Asked = entry.deed else {
+pub fn commit_text(alloc: Global, entry: &JournalEntry) -> Result<String, AllocError> {
+    let word = commit_word(entry.commit);
+    let CommitKind::Asked = entry.commit else {
         return format!(in alloc; "{word}");
     };
     match entry.request {
@@ -145,34 +145,50 @@ fn add_place(alloc: Global, cells: &mut Vec<Cell>, row: &Row<'_>) -> Result<(), 
 }
 
 // Adds what was done: kind, request and verdict.
-fn add_deed(alloc: Global, cells: &mut Vec<Cell>, entry: &Entry) -> Result<(), AllocError> {
-    add_cell(cells, of_words(deed_text(alloc, entry)))?;
+fn add_commit(
+    alloc: Global,
+    cells: &mut Vec<Cell>,
+    entry: &JournalEntry,
+) -> Result<(), AllocError> {
+    add_cell(cells, of_words(commit_text(alloc, entry)))?;
     add_cell(cells, word_cell(alloc, request_word(entry.request)))?;
     add_cell(cells, word_cell(alloc, ruling_word(entry.verdict)))
 }
 
 // Adds of whom it was done: device, customer and number.
-fn add_subject(alloc: Global, cells: &mut Vec<Cell>, entry: &Entry) -> Result<(), AllocError> {
+fn add_subject(
+    alloc: Global,
+    cells: &mut Vec<Cell>,
+    entry: &JournalEntry,
+) -> Result<(), AllocError> {
     add_cell(cells, device_cell(alloc, entry.device))?;
     add_cell(cells, number_cell(alloc, customer_number(entry.customer)))?;
     add_cell(cells, number_cell(alloc, Some(entry.number as u64)))
 }
 
 // Adds of which mail it was done: piece, job and class.
-fn add_mail(alloc: Global, cells: &mut Vec<Cell>, entry: &Entry) -> Result<(), AllocError> {
+fn add_mail(alloc: Global, cells: &mut Vec<Cell>, entry: &JournalEntry) -> Result<(), AllocError> {
     add_cell(cells, number_cell(alloc, widened(entry.piece)))?;
     add_cell(cells, number_cell(alloc, widened(entry.job)))?;
     add_cell(cells, number_cell(alloc, class_number(entry.class)))
 }
 
 // Adds what it moved: asked and amount.
-fn add_amounts(alloc: Global, cells: &mut Vec<Cell>, entry: &Entry) -> Result<(), AllocError> {
+fn add_amounts(
+    alloc: Global,
+    cells: &mut Vec<Cell>,
+    entry: &JournalEntry,
+) -> Result<(), AllocError> {
     add_cell(cells, number_cell(alloc, entry.asked))?;
     add_cell(cells, amount_cell(alloc, entry.amount))
 }
 
 // Adds the account that it moved it in: account and balance.
-fn add_account(alloc: Global, cells: &mut Vec<Cell>, entry: &Entry) -> Result<(), AllocError> {
+fn add_account(
+    alloc: Global,
+    cells: &mut Vec<Cell>,
+    entry: &JournalEntry,
+) -> Result<(), AllocError> {
     add_cell(cells, account_cell(alloc, entry.account))?;
     add_cell(cells, number_cell(alloc, entry.balance))
 }
@@ -180,7 +196,7 @@ fn add_account(alloc: Global, cells: &mut Vec<Cell>, entry: &Entry) -> Result<()
 // Adds what was done, of whom and of which mail: the columns up to the class.
 fn add_front(alloc: Global, cells: &mut Vec<Cell>, row: &Row<'_>) -> Result<(), AllocError> {
     add_place(alloc, cells, row)?;
-    add_deed(alloc, cells, &row.entry)?;
+    add_commit(alloc, cells, &row.entry)?;
     add_subject(alloc, cells, &row.entry)?;
     add_mail(alloc, cells, &row.entry)
 }

@@ -6,7 +6,7 @@ use bench_base::words::{Kind, Node, Verdict};
 
 /// What a commit did; `Printed` and `PrinterFault` are what became of a print, which is no commit of its own.
 #[derive(Clone, Copy)]
-pub enum Deed {
+pub enum CommitKind {
     Made,
     Asked,
     Applied,
@@ -44,9 +44,9 @@ pub struct Amount {
 
 /// What a node did. What is not known, or not there, is None.
 #[derive(Clone, Copy)]
-pub struct Entry {
+pub struct JournalEntry {
     pub node: Node,
-    pub deed: Deed,
+    pub commit: CommitKind,
     pub day: Option<DayNo>,
     /// What a device asked for, of the four kinds of a request.
     pub request: Option<Kind>,
@@ -69,12 +69,12 @@ pub struct Entry {
     pub balance: Option<u64>,
 }
 
-impl Entry {
-    /// An entry of which only the node and the deed are known.
-    pub fn new(node: Node, deed: Deed) -> Entry {
-        Entry {
+impl JournalEntry {
+    /// An entry of which only the node and the kind of commit are known.
+    pub fn new(node: Node, commit: CommitKind) -> JournalEntry {
+        JournalEntry {
             node,
-            deed,
+            commit,
             day: None,
             request: None,
             verdict: None,
@@ -104,7 +104,7 @@ pub struct At<'a> {
 pub struct Row<'a> {
     /// The line whose event made the commit.
     pub at: At<'a>,
-    pub entry: Entry,
+    pub entry: JournalEntry,
     /// The `up` at which a commit that was in doubt came to count.
     pub counted: Option<At<'a>>,
 }

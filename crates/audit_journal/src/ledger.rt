@@ -1,6 +1,6 @@
 //! A commit that moves money as a transaction of a ledger in plain text, as hledger reads it.
-use crate::cells::deed_text;
-use crate::entry::{At, Deed, Entry, Row};
+use crate::cells::commit_text;
+use crate::entry::{At, CommitKind, JournalEntry, Row};
 use crate::postings::postings_of;
 use crate::texts::date_text;
 use audit_words::shown_text;
@@ -12,29 +12,30 @@ pub const HEAD: &str =
     "; The journal of a postage meter: a transaction for each commit that moves money.\n; An amount is in dollars: a mill is $0.001.\ndecimal-mark .\ncommodity $1.000\n\n";
 
 // Whether such a commit may move money.
-fn may_move(deed: Deed) -> bool {
-    match deed {
-        Deed::Applied | Deed::Debited | Deed::Ruled | Deed::Deposited => true,
-        Deed::Made
-        | Deed::Asked
-        | Deed::Registered
-        | Deed::Settled
-        | Deed::Opened
-        | Deed::Suspended
-        | Deed::Resumed
-        | Deed::Ordered
-        | Deed::Held
-        | Deed::Begun
-        | Deed::Printed
-        | Deed::PrinterFault
-        | Deed::Closed
-        | Deed::Trusted
-        | Deed::Accepted => false,
+fn may_move(commit: CommitKind) -> bool {
+    match commit {
+        CommitKind::Applied | CommitKind::Debited | CommitKind::Ruled | CommitKind::Deposited =>
+            true,
+        CommitKind::Made
+        | CommitKind::Asked
+        | CommitKind::Registered
+        | CommitKind::Settled
+        | CommitKind::Opened
+        | CommitKind::Suspended
+        | CommitKind::Resumed
+        | CommitKind::Ordered
+        | CommitKind::Held
+        | CommitKind::Begun
+        | CommitKind::Printed
+        | CommitKind::PrinterFault
+        | CommitKind::Closed
+        | CommitKind::Trusted
+        | CommitKind::Accepted => false,
     }
 }
 
 // Whose commit it is.
-fn whose(alloc: Global, entry: &Entry) -> Result<String, AllocError> {
+fn whose(alloc: Global, entry: &JournalEntry) -> Result<String, AllocError> {
     if let Some(device) = entry.device {
         return format!(in alloc; "d{}", device.get());
     }
@@ -52,10 +53,10 @@ pub fn place_text(alloc: Global, at: At<'_>) -> Result<String, AllocError> {
 
 // What was done, of whom, under which number, and where.
 fn description(alloc: Global, row: &Row<'_>) -> Result<String, AllocError> {
-    let deed = deed_text(alloc, &row.entry)?;
+    let commit = commit_text(alloc, &row.entry)?;
     let who = whose(alloc, &row.entry)?;
     let place = place_text(alloc, row.at)?;
-    format!(in alloc; "{deed} {who} {}, {place}", row.entry.number)
+    format!(in alloc; "{commit} {who} {}, {place}", row.entry.number)
 }
 
 // What follows the description: the `up` at which the commit came to count.
@@ -117,7 +118,7 @@ pub fn transaction(
 
 /// The comment on a commit in doubt; None if such a commit moves no money. AllocError is lack of memory.
 pub fn doubt_comment(alloc: Global, row: &Row<'_>) -> Result<Option<String>, AllocError> {
-    if !may_move(row.entry.deed) {
+    if !may_move(row.entry.commit) {
         return Ok(None);
     }
     let what = description(alloc, row)?;
@@ -130,7 +131,7 @@ pub fn void_comment(
     row: &Row<'_>,
     up: At<'_>,
 ) -> Result<Option<String>, AllocError> {
-    if !may_move(row.entry.deed) {
+    if !may_move(row.entry.commit) {
         return Ok(None);
     }
     let what = description(alloc, row)?;

@@ -12,8 +12,8 @@ mod texts;
 mod words;
 mod writing;
 
-pub use entry::{Account, Amount, At, Deed, Entry, Row, place_of};
+pub use entry::{Account, Amount, At, CommitKind, JournalEntry, Row, place_of};
 pub use fault::BookFault;
 pub use texts::{date_text, dollars, money_text, signed_dollars};
-pub use words::{deed_word, kind_word, node_text, verdict_word};
+pub use words::{commit_word, kind_word, node_text, verdict_word};
 pub use writing::{Form, Journal};

@@ -1,5 +1,5 @@
 //! The two postings of a transaction: what moved, from which account to which, and the balance after it.
-use crate::entry::{Account, Amount, Deed, Entry};
+use crate::entry::{Account, Amount, CommitKind, JournalEntry};
 use crate::texts::{dollars, signed_dollars};
 use bench_base::numbers::{Customer, DevNo};
 use std::alloc::{AllocError, Global};
@@ -22,7 +22,7 @@ struct Moving {
 }
 
 // The other account of what the device's request moves.
-fn transit(entry: &Entry) -> Option<Other> {
+fn transit(entry: &JournalEntry) -> Option<Other> {
     match entry.device {
         Some(device) => Some(Other::Transit(device)),
         None => None,
@@ -30,34 +30,34 @@ fn transit(entry: &Entry) -> Option<Other> {
 }
 
 // The account that the money is taken from, or goes to. None if the commit moves none.
-fn other_of(entry: &Entry) -> Option<Other> {
-    match entry.deed {
-        Deed::Debited => Some(Other::Franked),
-        Deed::Ruled | Deed::Applied => transit(entry),
-        Deed::Deposited => match entry.customer {
+fn other_of(entry: &JournalEntry) -> Option<Other> {
+    match entry.commit {
+        CommitKind::Debited => Some(Other::Franked),
+        CommitKind::Ruled | CommitKind::Applied => transit(entry),
+        CommitKind::Deposited => match entry.customer {
             Some(customer) => Some(Other::Deposits(customer)),
             None => None,
         },
-        Deed::Made
-        | Deed::Asked
-        | Deed::Registered
-        | Deed::Settled
-        | Deed::Opened
-        | Deed::Suspended
-        | Deed::Resumed
-        | Deed::Ordered
-        | Deed::Held
-        | Deed::Begun
-        | Deed::Printed
-        | Deed::PrinterFault
-        | Deed::Closed
-        | Deed::Trusted
-        | Deed::Accepted => None,
+        CommitKind::Made
+        | CommitKind::Asked
+        | CommitKind::Registered
+        | CommitKind::Settled
+        | CommitKind::Opened
+        | CommitKind::Suspended
+        | CommitKind::Resumed
+        | CommitKind::Ordered
+        | CommitKind::Held
+        | CommitKind::Begun
+        | CommitKind::Printed
+        | CommitKind::PrinterFault
+        | CommitKind::Closed
+        | CommitKind::Trusted
+        | CommitKind::Accepted => None,
     }
 }
 
 // What the commit moved, if anything.
-fn moving_of(entry: &Entry) -> Option<Moving> {
+fn moving_of(entry: &JournalEntry) -> Option<Moving> {
     let amount = entry.amount?;
     if amount.size == 0 {
         return None;
@@ -130,7 +130,7 @@ fn both_postings(alloc: Global, moving: &Moving) -> Result<String, AllocError> {
 }
 
 /// The postings of the entry, a line each; None if it moves no money. AllocError is lack of memory.
-pub fn postings_of(alloc: Global, entry: &Entry) -> Result<Option<String>, AllocError> {
+pub fn postings_of(alloc: Global, entry: &JournalEntry) -> Result<Option<String>, AllocError> {
     let Some(moving) = moving_of(entry) else {
         return Ok(None);
     };

@@ -1,30 +1,30 @@
 //! The words of the journal.
-use crate::entry::Deed;
+use crate::entry::CommitKind;
 use bench_base::words::{Kind, Node, Verdict};
 use std::alloc::{AllocError, Global};
 
 /// The word for what a commit did. That of a request follows `asked`.
-pub fn deed_word(deed: Deed) -> &'static str {
-    match deed {
-        Deed::Made => "made",
-        Deed::Asked => "asked",
-        Deed::Applied => "applied",
-        Deed::Debited => "debited",
-        Deed::Registered => "registered",
-        Deed::Ruled => "ruled",
-        Deed::Settled => "settled",
-        Deed::Opened => "opened",
-        Deed::Deposited => "deposited",
-        Deed::Suspended => "suspended",
-        Deed::Resumed => "resumed",
-        Deed::Ordered => "ordered",
-        Deed::Held => "held",
-        Deed::Begun => "begun",
-        Deed::Printed => "printed",
-        Deed::PrinterFault => "printer fault",
-        Deed::Closed => "closed",
-        Deed::Trusted => "trusted",
-        Deed::Accepted => "accepted",
+pub fn commit_word(commit: CommitKind) -> &'static str {
+    match commit {
+        CommitKind::Made => "made",
+        CommitKind::Asked => "asked",
+        CommitKind::Applied => "applied",
+        CommitKind::Debited => "debited",
+        CommitKind::Registered => "registered",
+        CommitKind::Ruled => "ruled",
+        CommitKind::Settled => "settled",
+        CommitKind::Opened => "opened",
+        CommitKind::Deposited => "deposited",
+        CommitKind::Suspended => "suspended",
+        CommitKind::Resumed => "resumed",
+        CommitKind::Ordered => "ordered",
+        CommitKind::Held => "held",
+        CommitKind::Begun => "begun",
+        CommitKind::Printed => "printed",
+        CommitKind::PrinterFault => "printer fault",
+        CommitKind::Closed => "closed",
+        CommitKind::Trusted => "trusted",
+        CommitKind::Accepted => "accepted",
     }
 }
 

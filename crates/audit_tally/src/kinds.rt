@@ -1,55 +1,55 @@
 //! The commit that a reply reports, by the event and the reply.
 use crate::doings::Doing;
-use audit_journal::{Amount, Deed, Entry};
+use audit_journal::{Amount, CommitKind, JournalEntry};
 use bench_base::events::Reply;
 use bench_base::numbers::{Customer, DevNo};
 use bench_base::words::{Kind, Node, Verdict};
 
-fn of_device(device: DevNo, deed: Deed, number: u32) -> Option<Entry> {
-    Some(Entry {
+fn of_device(device: DevNo, commit: CommitKind, number: u32) -> Option<JournalEntry> {
+    Some(JournalEntry {
         device: Some(device),
         number,
-        ..Entry::new(Node::Device(device), deed)
+        ..JournalEntry::new(Node::Device(device), commit)
     })
 }
 
-fn of_centre(device: DevNo, deed: Deed, number: u32) -> Option<Entry> {
-    Some(Entry {
+fn of_centre(device: DevNo, commit: CommitKind, number: u32) -> Option<JournalEntry> {
+    Some(JournalEntry {
         device: Some(device),
         number,
-        ..Entry::new(Node::Centre, deed)
+        ..JournalEntry::new(Node::Centre, commit)
     })
 }
 
-fn of_customer(customer: Customer, deed: Deed, number: u32) -> Option<Entry> {
-    Some(Entry {
+fn of_customer(customer: Customer, commit: CommitKind, number: u32) -> Option<JournalEntry> {
+    Some(JournalEntry {
         customer: Some(customer),
         number,
-        ..Entry::new(Node::Centre, deed)
+        ..JournalEntry::new(Node::Centre, commit)
     })
 }
 
-fn of_job(deed: Deed, job: u32) -> Option<Entry> {
-    Some(Entry {
+fn of_job(commit: CommitKind, job: u32) -> Option<JournalEntry> {
+    Some(JournalEntry {
         number: job,
         job: Some(job),
-        ..Entry::new(Node::Host, deed)
+        ..JournalEntry::new(Node::Host, commit)
     })
 }
 
-fn trusted(device: DevNo) -> Option<Entry> {
-    Some(Entry {
+fn trusted(device: DevNo) -> Option<JournalEntry> {
+    Some(JournalEntry {
         device: Some(device),
-        ..Entry::new(Node::Verifier, Deed::Trusted)
+        ..JournalEntry::new(Node::Verifier, CommitKind::Trusted)
     })
 }
 
-fn accepted(device: DevNo, piece: u32) -> Option<Entry> {
-    Some(Entry {
+fn accepted(device: DevNo, piece: u32) -> Option<JournalEntry> {
+    Some(JournalEntry {
         device: Some(device),
         number: piece,
         piece: Some(piece),
-        ..Entry::new(Node::Verifier, Deed::Accepted)
+        ..JournalEntry::new(Node::Verifier, CommitKind::Accepted)
     })
 }
 
@@ -61,10 +61,10 @@ fn amount_asked(kind: Kind, amount: u32) -> Option<u64> {
     }
 }
 
-fn asked(doing: &Doing, device: DevNo, number: u32) -> Option<Entry> {
-    let entry = of_device(device, Deed::Asked, number)?;
+fn asked(doing: &Doing, device: DevNo, number: u32) -> Option<JournalEntry> {
+    let entry = of_device(device, CommitKind::Asked, number)?;
     match doing {
-        Doing::Ask { kind, amount } => Some(Entry {
+        Doing::Ask { kind, amount } => Some(JournalEntry {
             request: Some(*kind),
             asked: amount_asked(*kind, *amount),
             ..entry
@@ -73,9 +73,9 @@ fn asked(doing: &Doing, device: DevNo, number: u32) -> Option<Entry> {
     }
 }
 
-fn applied(device: DevNo, number: u32, verdict: Verdict) -> Option<Entry> {
-    let entry = of_device(device, Deed::Applied, number)?;
-    Some(Entry {
+fn applied(device: DevNo, number: u32, verdict: Verdict) -> Option<JournalEntry> {
+    let entry = of_device(device, CommitKind::Applied, number)?;
+    Some(JournalEntry {
         verdict: Some(verdict),
         ..entry
     })
@@ -90,17 +90,17 @@ fn class_in(doing: &Doing) -> Option<u16> {
     }
 }
 
-fn debited(doing: &Doing, device: DevNo, piece: u32) -> Option<Entry> {
-    let entry = of_device(device, Deed::Debited, piece)?;
-    Some(Entry {
+fn debited(doing: &Doing, device: DevNo, piece: u32) -> Option<JournalEntry> {
+    let entry = of_device(device, CommitKind::Debited, piece)?;
+    Some(JournalEntry {
         piece: Some(piece),
         class: class_in(doing),
         ..entry
     })
 }
 
-fn ordered(doing: &Doing, job: u32, postage: u32) -> Option<Entry> {
-    let entry = of_job(Deed::Ordered, job)?;
+fn ordered(doing: &Doing, job: u32, postage: u32) -> Option<JournalEntry> {
+    let entry = of_job(CommitKind::Ordered, job)?;
     let amount = Some(Amount {
         minus: false,
         size: postage as u64,
@@ -110,30 +110,30 @@ fn ordered(doing: &Doing, job: u32, postage: u32) -> Option<Entry> {
             device,
             piece,
             class,
-        } => Some(Entry {
+        } => Some(JournalEntry {
             device: Some(*device),
             piece: Some(*piece),
             class: Some(*class),
             amount,
             ..entry
         }),
-        _ => Some(Entry { amount, ..entry }),
+        _ => Some(JournalEntry { amount, ..entry }),
     }
 }
 
-fn flagged(customer: Customer, suspended: bool) -> Option<Entry> {
-    let deed = if suspended {
-        Deed::Suspended
+fn flagged(customer: Customer, suspended: bool) -> Option<JournalEntry> {
+    let commit = if suspended {
+        CommitKind::Suspended
     } else {
-        Deed::Resumed
+        CommitKind::Resumed
     };
-    of_customer(customer, deed, 0)
+    of_customer(customer, commit, 0)
 }
 
 /// The commit that the event makes if this is the answer that is due and the node's storage takes it. None if the answer is of none.
-pub fn entry_of(doing: &Doing, due: &Reply) -> Option<Entry> {
+pub fn entry_of(doing: &Doing, due: &Reply) -> Option<JournalEntry> {
     match due {
-        Reply::Made(device) => of_device(*device, Deed::Made, 0),
+        Reply::Made(device) => of_device(*device, CommitKind::Made, 0),
         Reply::SentRequest { device, number, .. } => asked(doing, *device, *number),
         Reply::Applied {
             device,
@@ -143,23 +143,23 @@ pub fn entry_of(doing: &Doing, due: &Reply) -> Option<Entry> {
         Reply::Marked { device, piece, .. } | Reply::Released { device, piece, .. } => {
             debited(doing, *device, *piece)
         }
-        Reply::Registered(device) => of_centre(*device, Deed::Registered, 0),
-        Reply::Ruled { device, number, .. } => of_centre(*device, Deed::Ruled, *number),
-        Reply::Settled { device, number, .. } => of_centre(*device, Deed::Settled, *number),
-        Reply::Opened(customer) => of_customer(*customer, Deed::Opened, 0),
+        Reply::Registered(device) => of_centre(*device, CommitKind::Registered, 0),
+        Reply::Ruled { device, number, .. } => of_centre(*device, CommitKind::Ruled, *number),
+        Reply::Settled { device, number, .. } => of_centre(*device, CommitKind::Settled, *number),
+        Reply::Opened(customer) => of_customer(*customer, CommitKind::Opened, 0),
         Reply::Deposited {
             customer,
             receipt,
             ..
-        } => of_customer(*customer, Deed::Deposited, *receipt),
+        } => of_customer(*customer, CommitKind::Deposited, *receipt),
         Reply::Flagged {
             customer,
             suspended,
         } => flagged(*customer, *suspended),
         Reply::Ordered { job, postage } => ordered(doing, *job, *postage),
-        Reply::Held(job) => of_job(Deed::Held, *job),
-        Reply::Printed(job) | Reply::PrinterFault(job) => of_job(Deed::Begun, *job),
-        Reply::Closed(job) => of_job(Deed::Closed, *job),
+        Reply::Held(job) => of_job(CommitKind::Held, *job),
+        Reply::Printed(job) | Reply::PrinterFault(job) => of_job(CommitKind::Begun, *job),
+        Reply::Closed(job) => of_job(CommitKind::Closed, *job),
         Reply::Trusted(device) => trusted(*device),
         Reply::Accepted { device, piece, .. } => accepted(*device, *piece),
         Reply::Day(_)

@@ -1,5 +1,5 @@
 //! What the words of the auditor's program call for.
-ghost use Rattle.std.specs.Prelude.{◌≡◌, ◌↔◌, ℕ, List, map, codes, string_bytes, IfOk, IfErr, IsTrue};
+ghost use Rattle.std.specs.Prelude.{◌≡◌, ◌↔◌, ℕ, List, map, string_bytes, IfOk, IfErr, IsTrue};
 ghost use Rattle.std.specs.List.{Contains};
 ghost use Rattle.audit_words.specs.Calls as calls;
 ghost use Rattle.audit_words.specs.Calls.{IsCheck, Reads};

@@ -25,16 +25,14 @@ use Rattle.node_storage.specs.Stands as node
 use Rattle.node_turns.specs.Adds.{Adds}
 use Rattle.node_turns.specs.NodeTurns.{Switches}
 use Rattle.node_turns.specs.Turns.{turn_of, in_order}
-use Rattle.ledger_moves.specs.Tariffs.{Tariff}
 use Rattle.ledger_moves.specs.Moves.{plan}
 use Rattle.host_rates.specs.Laws.{KeptPrices}
-use Rattle.bench_abstraction.specs.declared.taken.Taken.{Taken}
-use Rattle.bench_abstraction.specs.declared.taken.Taken.TheVariants as take
-use Rattle.bench_abstraction.specs.declared.taken.Work.{Work}
-use Rattle.bench_abstraction.specs.declared.taken.Work.TheVariants as work
+use Rattle.bench_abstraction.specs.declared.routing.Routed.TheVariants as route
+use Rattle.bench_abstraction.specs.declared.routing.OfDay.{OfDay}
+use Rattle.bench_abstraction.specs.declared.routing.OfDay.TheVariants as of_day
 use Rattle.bench_abstraction.specs.Follows.{OthersAreQuiet, quiet_by}
 use Rattle.bench_abstraction.specs.Tariff.{quote}
-use Rattle.bench_abstraction.specs.Taken.{taken, as_given}
+use Rattle.bench_abstraction.specs.Routing.{routed, as_given}
 use Rattle.bench_abstraction.proofs.Events.{same_work}
 use Rattle.bench_abstraction.proofs.OfNone.{IsQuietAs, quiet_is, plan_day, plan_end, plan_none}
 use Rattle.bench.specs.Benches.{Nodes, OfState, Of, IsReady, Stands, BenchOf}
@@ -137,7 +135,7 @@ module _ (n : Nodes) (old : BenchOf n) (ready : IsReady old) (out : Outside) whe
         };
         still = λ k. refl;
       })
-      (λ tells. record { does = λ today y day is. let wrong : Some (take.Day t) ≡ Some (take.Work y) = is in cc; not_read = refl })
+      (λ tells. record { does = λ today y day is. let wrong : Some (route.Day t) ≡ Some (route.OfDay y) = is in cc; not_read = refl })
 
   pub steps_end : IsWholeEvent ev.End → Steps n ev.End [] (turn_of r.End []) old old out out
   steps_end whole = quiet n ev.End ev.End [] r.End [] old old out out (all_rest old) refl ready whole
@@ -170,7 +168,7 @@ module _ (n : Nodes) (old : BenchOf n) (ready : IsReady old) (out : Outside) whe
         stands = stands;
         still = λ k. refl;
       })
-      (λ tells. record { does = λ today y day is. let wrong : Some take.End ≡ Some (take.Work y) = is in cc; not_read = refl })
+      (λ tells. record { does = λ today y day is. let wrong : Some route.End ≡ Some (route.OfDay y) = is in cc; not_read = refl })
 
   pub steps_none : (e : Event) → IsWholeEvent e → needs_day e ≡ true → old.day ≡ None → Steps n e [] (turn_of r.NoDay []) old old out out
   steps_none e whole needs none = quiet n e (as_given old.messages e) [] r.NoDay [] old old out out (all_rest old) refl ready whole
@@ -210,12 +208,12 @@ module _ (n : Nodes) (old : BenchOf n) (ready : IsReady old) (out : Outside) whe
   -- == on a day, by what is seen ==
 
   module _ (today : ℤ) (day_is : old.day ≡ Some today) (IsKnown : n.centre.Seen → Type 0) (knows : (s : n.centre.Seen) → n.centre.IsSound tt s → IsKnown s) (law : OthersAreQuiet n.kinds IsKnown) (prices : KeptPrices) where
-    module _ (e : Event) (x : Work) (reply : Reply) (whole : IsWholeEvent e) (needs : needs_day e ≡ true) (taken_is : taken old.messages (quote old.rates) e ≡ Some (take.Work x)) (given : as_given old.messages e ≡ e)
+    module _ (e : Event) (x : OfDay) (reply : Reply) (whole : IsWholeEvent e) (needs : needs_day e ≡ true) (taken_is : routed old.messages (quote old.rates) e ≡ Some (route.OfDay x)) (given : as_given old.messages e ≡ e)
         (answers : Answers e reply) where
       pub record OnDay : Type 0 where
         pub shown : (L : Ledger) → Stands n old L → n.storage.tells → quiet_by n.kinds L x ≡ Some reply
         pub does : n.storage.tells → DoesAsked n today (turn_of reply []) old old out out x
-        pub message : (k : ℕ) → x ≡ work.NoMessage k → reply ≡ r.NoMessage k
+        pub message : (k : ℕ) → x ≡ of_day.NoMessage k → reply ≡ r.NoMessage k
         pub switches : (m : Node) → Of n (SwitchesIs n e e [] reply [] old old out out) old m
         pub unarmed : (m : Node) (calls keep byte : ℕ) → e ≡ ev.Cut m calls keep byte → ⊥
         pub not_rates : e ≢ ev.Rates
@@ -248,7 +246,7 @@ module _ (n : Nodes) (old : BenchOf n) (ready : IsReady old) (out : Outside) whe
           })
           (λ τ L texts history stands tells.
           let is : plan τ todays_rules L e [] ≡ refuse reply = law τ L e today x reply history (sym stands.day.day ∙ day_is)
-          (taken_by τ prices texts L old.messages old.rates e (take.Work x) stands.day.messages stands.day.rates taken_is) (knows _ ((stands.nodes Centre).store.sound tells).state) (on.shown L stands tells) in
+          (taken_by τ prices texts L old.messages old.rates e (route.OfDay x) stands.day.messages stands.day.rates taken_is) (knows _ ((stands.nodes Centre).store.sound tells).state) (on.shown L stands tells) in
           record {
             moves = (whole, inl (ap (λ (p : Plan). p.reply) (sym is)));
             silent = ap (λ (p : Plan). p.commit) is;
@@ -259,7 +257,7 @@ module _ (n : Nodes) (old : BenchOf n) (ready : IsReady old) (out : Outside) whe
           (λ tells. asking _ _ _ _ _ _ _ _ _ _ x taken_is (λ u day. subst (λ (t : ℤ). DoesAsked n t (turn_of reply []) old old out out x) (same_Some _ _ (sym day_is ∙ day)) (on.does tells)) answers.not_read)
 
     module _ (e : Event) (whole : IsWholeEvent e) where
-      pub steps_missing : (k : ℕ) → taken old.messages (quote old.rates) e ≡ Some (take.Work (work.NoMessage k)) → Steps n e [] (turn_of (r.NoMessage k) []) old old out out
+      pub steps_missing : (k : ℕ) → routed old.messages (quote old.rates) e ≡ Some (route.OfDay (of_day.NoMessage k)) → Steps n e [] (turn_of (r.NoMessage k) []) old old out out
       steps_missing k is = ⊎_elim
           (λ (at : e ≡ ev.Deliver k). steps (ap needs_day at) (inl at) (λ m calls keep byte same. let wrong : ev.Deliver k ≡ ev.Cut m calls keep byte = sym at ∙ same in cc)
           (λ same. let wrong : ev.Deliver k ≡ ev.Rates = sym at ∙ same in cc) (λ d same. let wrong : ev.Deliver k ≡ ev.Reconcile d = sym at ∙ same in cc))
@@ -267,12 +265,12 @@ module _ (n : Nodes) (old : BenchOf n) (ready : IsReady old) (out : Outside) whe
           (λ same. let wrong : ev.ScanMsg at.0 k ≡ ev.Rates = sym at.1 ∙ same in cc) (λ d same. let wrong : ev.ScanMsg at.0 k ≡ ev.Reconcile d = sym at.1 ∙ same in cc))
           found.1
         where
-          found : IsQuietAs old.messages e (take.Work (work.NoMessage k))
-          found = quiet_is old.messages (quote old.rates) e (take.Work (work.NoMessage k)) is tt
+          found : IsQuietAs old.messages e (route.OfDay (of_day.NoMessage k))
+          found = quiet_is old.messages (quote old.rates) e (route.OfDay (of_day.NoMessage k)) is tt
 
           steps : needs_day e ≡ true → MayGet e (r.NoMessage k) → ((m : Node) (calls keep byte : ℕ) → e ≡ ev.Cut m calls keep byte → ⊥) → e ≢ ev.Rates → ((d : ℕ) → e ≢ ev.Reconcile d)
               → Steps n e [] (turn_of (r.NoMessage k) []) old old out out
-          steps needs gets unarmed not_rates not_compare = steps_on e (work.NoMessage k) (r.NoMessage k) whole needs is found.0
+          steps needs gets unarmed not_rates not_compare = steps_on e (of_day.NoMessage k) (r.NoMessage k) whole needs is found.0
               (record {
                 gets = gets;
                 says = refl;
@@ -293,17 +291,17 @@ module _ (n : Nodes) (old : BenchOf n) (ready : IsReady old) (out : Outside) whe
                 finds = λ d same. absurd (not_compare d same);
               })
 
-      pub steps_compared : (d : ℕ) (reply : Reply) → taken old.messages (quote old.rates) e ≡ Some (take.Work (work.Reconcile d)) → Answers (ev.Reconcile d) reply → ((was : Bool) → was ≡ on_after reply was)
+      pub steps_compared : (d : ℕ) (reply : Reply) → routed old.messages (quote old.rates) e ≡ Some (route.OfDay (of_day.Reconcile d)) → Answers (ev.Reconcile d) reply → ((was : Bool) → was ≡ on_after reply was)
           → ((i : ℕ) (s : n.Devices) → d ≡ i + 1 → slice_get old.devices i ≡ Some s → (reply ≡ r.OffNode (Device d)) ↔ (n.devices.is_on s ≡ false))
           → ((i : ℕ) (s : n.Devices) → d ≡ i + 1 → slice_get old.devices i ≡ Some s → (reply ≡ r.OffNode Centre) ↔ ((n.devices.is_on s ≡ true) × (n.centre.is_on old.centre ≡ false)))
           → ((i : ℕ) (s : n.Devices) → d ≡ i + 1 → slice_get old.devices i ≡ Some s → ComparesViews n d reply old.centre s) → Steps n e [] (turn_of reply []) old old out out
       steps_compared d reply is answers leaves off finds compares =
-          let found : e ≡ ev.Reconcile d = quiet_is old.messages (quote old.rates) e (take.Work (work.Reconcile d)) is tt in
+          let found : e ≡ ev.Reconcile d = quiet_is old.messages (quote old.rates) e (route.OfDay (of_day.Reconcile d)) is tt in
           let own = subst IsWholeEvent found whole in
           let s = get_some old.devices (d - 1) (omega (arith, own.0, own.1, ready.eight)) in
           let at : d ≡ d - 1 + 1 = omega (arith, own.0) in
           subst (λ (x : Event). Steps n x [] (turn_of reply []) old old out out) (sym found)
-          (steps_on (ev.Reconcile d) (work.Reconcile d) reply own refl refl refl answers (record {
+          (steps_on (ev.Reconcile d) (of_day.Reconcile d) reply own refl refl refl answers (record {
             shown = λ L stands tells. ap (λ x. Some x) (sym (compares (d - 1) s.0 at s.1 (view_in (Device d) (n.kinds.devices.seen d) L) (view_in Centre (n.kinds.centre.seen tt) L)
                 (stands.nodes (Device d) (d - 1) s.0 at s.1) (stands.nodes Centre) tells));
             does = λ tells. compares;

@@ -23,12 +23,12 @@ use Rattle.bench_abstraction.specs.declared.calls.HostCall.{HostCall}
 use Rattle.bench_abstraction.specs.declared.calls.HostCall.TheVariants as host
 use Rattle.bench_abstraction.specs.declared.calls.VerifierCall.{VerifierCall}
 use Rattle.bench_abstraction.specs.declared.calls.VerifierCall.TheVariants as verifier
-use Rattle.bench_abstraction.specs.declared.taken.Taken.{Taken}
-use Rattle.bench_abstraction.specs.declared.taken.Taken.TheVariants as take
-use Rattle.bench_abstraction.specs.declared.taken.Work.{Work}
-use Rattle.bench_abstraction.specs.declared.taken.Work.TheVariants as work
+use Rattle.bench_abstraction.specs.declared.routing.Routed.{Routed}
+use Rattle.bench_abstraction.specs.declared.routing.Routed.TheVariants as route
+use Rattle.bench_abstraction.specs.declared.routing.OfDay.{OfDay}
+use Rattle.bench_abstraction.specs.declared.routing.OfDay.TheVariants as of_day
 use Rattle.bench_abstraction.specs.Tariff.{Quote}
-use Rattle.bench_abstraction.specs.Taken.{taken, taker, as_given, as_given_by, as_scanned_by, IsPricedAsked}
+use Rattle.bench_abstraction.specs.Routing.{routed, taker, as_given, as_given_by, as_scanned_by, IsPricedAsked}
 use Rattle.bench_abstraction.proofs.Events.{each_asked, each_of_centre, each_of_host, each_of_verifier}
 use Rattle.node_acts.specs.Kinds.{OfCall}
 use Rattle.bench.specs.Calls.{asked_event, device_event, centre_event, host_event, verifier_event, device_call_event, centre_call_event, host_call_event, verifier_call_event, IsRangedCall, IsRangedJob, IsRangedScan}
@@ -109,12 +109,12 @@ given_alike pool ev.End = alike ev.End
 
 -- == what the bench takes is the event that asks it ==
 
--- what is taken
-pub taken_as : (pool given : List (List ℕ)) (q : Quote) (e : Event) (o : Option Taken) (x y : Taken) → given ≡ pool → o ≡ taken given q e → o ≡ Some x → x ≡ y → taken pool q e ≡ Some y
-taken_as pool given q e o x y same is some named = ap (λ (l : List (List ℕ)). taken l q e) (sym same) ∙ sym is ∙ some ∙ ap (λ z. Some z) named
+-- what is routed
+pub taken_as : (pool given : List (List ℕ)) (q : Quote) (e : Event) (o : Option Routed) (x y : Routed) → given ≡ pool → o ≡ routed given q e → o ≡ Some x → x ≡ y → routed pool q e ≡ Some y
+taken_as pool given q e o x y same is some named = ap (λ (l : List (List ℕ)). routed l q e) (sym same) ∙ sym is ∙ some ∙ ap (λ z. Some z) named
 
-pub work_as : (pool given : List (List ℕ)) (q : Quote) (e : Event) (o : Option Taken) (x : Taken) (y z : Work) → given ≡ pool → o ≡ taken given q e → o ≡ Some x → x ≡ take.Work y → y ≡ z → taken pool q e ≡ Some (take.Work z)
-work_as pool given q e o x y z same is some named of = taken_as pool given q e o x (take.Work z) same is some (named ∙ ap (λ w. take.Work w) of)
+pub work_as : (pool given : List (List ℕ)) (q : Quote) (e : Event) (o : Option Routed) (x : Routed) (y z : OfDay) → given ≡ pool → o ≡ routed given q e → o ≡ Some x → x ≡ route.OfDay y → y ≡ z → routed pool q e ≡ Some (route.OfDay z)
+work_as pool given q e o x y z same is some named of = taken_as pool given q e o x (route.OfDay z) same is some (named ∙ ap (λ w. route.OfDay w) of)
 
 -- an event that sets no day and is not the end needs a day
 needs : (e : Event) → ((t : ℤ) → e ≢ ev.Day t) → e ≢ ev.End → needs_day e ≡ true
@@ -122,17 +122,17 @@ needs (ev.Day t) no_day no_end = absurd (no_day t refl)
 needs ev.End no_day no_end = absurd (no_end refl)
 needs _ no_day no_end = refl
 
-pub needs_taken : (pool : List (List ℕ)) (q : Quote) (e : Event) (x : Work) → taken pool q e ≡ Some (take.Work x) → needs_day e ≡ true
+pub needs_taken : (pool : List (List ℕ)) (q : Quote) (e : Event) (x : OfDay) → routed pool q e ≡ Some (route.OfDay x) → needs_day e ≡ true
 needs_taken pool q e x is = needs e
-    (λ t same. let wrong : Some (take.Day t) ≡ Some (take.Work x) = sym (ap (taken pool q) same) ∙ is in cc)
-    (λ same. let wrong : Some take.End ≡ Some (take.Work x) = sym (ap (taken pool q) same) ∙ is in cc)
+    (λ t same. let wrong : Some (route.Day t) ≡ Some (route.OfDay x) = sym (ap (routed pool q) same) ∙ is in cc)
+    (λ same. let wrong : Some route.End ≡ Some (route.OfDay x) = sym (ap (routed pool q) same) ∙ is in cc)
 
 module _ (pool : List (List ℕ)) (quote : Quote) where
   -- what is delivered is given to the node that takes it
   delivered : (k : ℕ) (bytes : List ℕ) (n : Node) → slice_get pool k ≡ Some bytes → taker bytes ≡ n → as_given pool (ev.Deliver k) ≡ ev.Give n bytes
   delivered k bytes n there to = ap (as_given_by k) there ∙ ap (λ (m : Node). ev.Give m bytes) to
 
-  pub device_given : (e : Event) (d : ℕ) (asked : Asked DeviceCall) → taken pool quote e ≡ Some (take.Work (work.Device d asked)) → as_given pool e ≡ device_event d asked
+  pub device_given : (e : Event) (d : ℕ) (asked : Asked DeviceCall) → routed pool quote e ≡ Some (route.OfDay (of_day.Device d asked)) → as_given pool e ≡ device_event d asked
   device_given = each_asked pool quote (λ e d asked. as_given pool e ≡ device_event d asked) (record {
     on = λ d. refl;
     off = λ d. refl;
@@ -147,7 +147,7 @@ module _ (pool : List (List ℕ)) (quote : Quote) where
     deliver = λ k d bytes there to. delivered k bytes (Device d) there to;
   })
 
-  pub centre_given : (e : Event) (asked : Asked CentreCall) → taken pool quote e ≡ Some (take.Work (work.Centre asked)) → as_given pool e ≡ centre_event asked
+  pub centre_given : (e : Event) (asked : Asked CentreCall) → routed pool quote e ≡ Some (route.OfDay (of_day.Centre asked)) → as_given pool e ≡ centre_event asked
   centre_given = each_of_centre pool quote (λ e asked. as_given pool e ≡ centre_event asked) (record {
     on = refl;
     off = refl;
@@ -161,7 +161,7 @@ module _ (pool : List (List ℕ)) (quote : Quote) where
     deliver = λ k bytes there to. delivered k bytes Centre there to;
   })
 
-  pub host_given : (e : Event) (asked : Asked HostCall) → taken pool quote e ≡ Some (take.Work (work.Host asked)) → as_given pool e ≡ host_event asked
+  pub host_given : (e : Event) (asked : Asked HostCall) → routed pool quote e ≡ Some (route.OfDay (of_day.Host asked)) → as_given pool e ≡ host_event asked
   host_given = each_of_host pool quote (λ e asked. as_given pool e ≡ host_event asked) (record {
     on = refl;
     off = refl;
@@ -174,7 +174,7 @@ module _ (pool : List (List ℕ)) (quote : Quote) where
     deliver = λ k bytes there to. delivered k bytes Host there to;
   })
 
-  pub verifier_given : (e : Event) (asked : Asked VerifierCall) → taken pool quote e ≡ Some (take.Work (work.Verifier asked)) → as_given pool e ≡ verifier_event asked
+  pub verifier_given : (e : Event) (asked : Asked VerifierCall) → routed pool quote e ≡ Some (route.OfDay (of_day.Verifier asked)) → as_given pool e ≡ verifier_event asked
   verifier_given = each_of_verifier pool quote (λ e asked. as_given pool e ≡ verifier_event asked) (record {
     on = refl;
     off = refl;
@@ -186,7 +186,7 @@ module _ (pool : List (List ℕ)) (quote : Quote) where
 
   -- == the numbers of what a node is asked are those of the event ==
 
-  pub centre_ranged : (e : Event) (asked : Asked CentreCall) → taken pool quote e ≡ Some (take.Work (work.Centre asked)) → IsWholeEvent e → OfCall IsRangedCall asked
+  pub centre_ranged : (e : Event) (asked : Asked CentreCall) → routed pool quote e ≡ Some (route.OfDay (of_day.Centre asked)) → IsWholeEvent e → OfCall IsRangedCall asked
   centre_ranged = each_of_centre pool quote (λ e asked. IsWholeEvent e → OfCall IsRangedCall asked) (record {
     on = λ whole. tt;
     off = λ whole. tt;
@@ -201,7 +201,7 @@ module _ (pool : List (List ℕ)) (quote : Quote) where
   })
 
   -- a price is one where the quote gives one
-  pub host_ranged : (e : Event) (asked : Asked HostCall) → taken pool quote e ≡ Some (take.Work (work.Host asked)) → IsWholeEvent e → IsPricedAsked asked → OfCall IsRangedJob asked
+  pub host_ranged : (e : Event) (asked : Asked HostCall) → routed pool quote e ≡ Some (route.OfDay (of_day.Host asked)) → IsWholeEvent e → IsPricedAsked asked → OfCall IsRangedJob asked
   host_ranged = each_of_host pool quote (λ e asked. IsWholeEvent e → IsPricedAsked asked → OfCall IsRangedJob asked) (record {
     on = λ whole priced. tt;
     off = λ whole priced. tt;
@@ -214,7 +214,7 @@ module _ (pool : List (List ℕ)) (quote : Quote) where
     deliver = λ k bytes there to whole priced. tt;
   })
 
-  pub verifier_ranged : (e : Event) (asked : Asked VerifierCall) → taken pool quote e ≡ Some (take.Work (work.Verifier asked)) → IsWholeEvent e → OfCall IsRangedScan asked
+  pub verifier_ranged : (e : Event) (asked : Asked VerifierCall) → routed pool quote e ≡ Some (route.OfDay (of_day.Verifier asked)) → IsWholeEvent e → OfCall IsRangedScan asked
   verifier_ranged = each_of_verifier pool quote (λ e asked. IsWholeEvent e → OfCall IsRangedScan asked) (record {
     on = λ whole. tt;
     off = λ whole. tt;

@@ -28,11 +28,11 @@ use Rattle.host_rates.specs.Laws.{KeptPrices}
 use Rattle.ledger_moves.specs.Tariffs.{Tariff}
 use Rattle.ledger_moves.specs.Moves as ledger
 use Rattle.ledger_moves.specs.Moves.{plan}
-use Rattle.bench_abstraction.specs.declared.taken.Taken.TheVariants as take
-use Rattle.bench_abstraction.specs.declared.taken.Work.{Work}
-use Rattle.bench_abstraction.specs.declared.taken.Work.TheVariants as work
+use Rattle.bench_abstraction.specs.declared.routing.Routed.TheVariants as route
+use Rattle.bench_abstraction.specs.declared.routing.OfDay.{OfDay}
+use Rattle.bench_abstraction.specs.declared.routing.OfDay.TheVariants as of_day
 use Rattle.bench_abstraction.specs.Tariff.{quote}
-use Rattle.bench_abstraction.specs.Taken.{taken, as_given}
+use Rattle.bench_abstraction.specs.Routing.{routed, as_given}
 use Rattle.bench_abstraction.specs.Follows.{Follows, FollowsAlways}
 use Rattle.bench_abstraction.proofs.Events.{same_work}
 use Rattle.bench.specs.Benches.{Nodes, OneKind, OfChange, At, IsReady, Stands, devices, centre, host, verifier, BenchOf}
@@ -155,20 +155,20 @@ not_failed reply failure is tells fine = absurd (true≢false (sym tells ∙ sym
 module _ (n : Nodes) (e x : Event) (today : ℤ) (old new : BenchOf n) (turn : Turn)
     (before now : Outside) (m : Node) (o : OneKind n.Storage) (d : o.Name) (asked : Asked o.Call) (s t : o.Own) where
   -- the event asks this of a node that is on the bench, and came to this turn of it
-  pub record IsAsked (work_of : Asked o.Call → Work) : Type 1 where
+  pub record IsAsked (work_of : Asked o.Call → OfDay) : Type 1 where
     pub located : IsAt n old new m o d s t
     pub did : NodeTurn o.ghosts n.storage n.fuse o.kind m d today x asked s t turn
     pub given : as_given old.messages e ≡ x
     pub of : IsOfNode m x
     pub dated : old.day ≡ Some today
-    pub taken_is : taken old.messages (quote old.rates) e ≡ Some (take.Work (work_of asked))
-    pub told : (k : ℕ) → work.NoMessage k ≡ work_of asked → ⊥
+    pub taken_is : routed old.messages (quote old.rates) e ≡ Some (route.OfDay (work_of asked))
+    pub told : (k : ℕ) → of_day.NoMessage k ≡ work_of asked → ⊥
     pub sends : new.messages ≡ old.messages ++ notes_in turn.entries
     pub feed : now.rates ≡ before.rates
     pub prints : NodePrints o.ghosts n.storage o.kind m d today asked s turn.reply before.printer now.printer
     pub does : n.storage.tells → DoesAsked n today turn old new before now (work_of asked)
 
-  module _ (work_of : Asked o.Call → Work) (is : IsAsked work_of) where
+  module _ (work_of : Asked o.Call → OfDay) (is : IsAsked work_of) where
     did : NodeDid n m e x turn old new before now
     did = record {
       given = is.given;
@@ -203,7 +203,7 @@ module _ (n : Nodes) (e x : Event) (today : ℤ) (old new : BenchOf n) (turn : T
       does = λ u y day taken_is.
           let when : today ≡ u = same_Some _ _ (sym is.dated ∙ day) in
           let what : work_of asked ≡ y = same_work (sym is.taken_is ∙ taken_is) in
-          subst (λ (j : ℤ). DoesAsked n j turn old new before now y) when (subst (λ (z : Work). DoesAsked n today turn old new before now z) what (is.does tells));
+          subst (λ (j : ℤ). DoesAsked n j turn old new before now y) when (subst (λ (z : OfDay). DoesAsked n today turn old new before now z) what (is.does tells));
       unwritten = at_unwritten n m e x turn old new before now did tells;
       damaged = at_damaged n m e x turn old new before now did tells;
     }
@@ -241,7 +241,7 @@ module _ (n : Nodes) (e x : Event) (today : ℤ) (old new : BenchOf n) (turn : T
           let v = view_in m (o.kind.seen d) L in
           let st = is.located.stood L stands in
           let law = follows τ L e today asked history unforged (sym stands.day.day ∙ is.dated) whole
-          (taken_by τ prices texts L old.messages old.rates e (take.Work (work_of asked)) stands.day.messages stands.day.rates is.taken_is) bytes
+          (taken_by τ prices texts L old.messages old.rates e (route.OfDay (work_of asked)) stands.day.messages stands.day.rates is.taken_is) bytes
           (knows v.state ((st.store.sound tells).state)) (each_some (λ k next. knows k next.0) (node_commit (o.kind.commit d today v) asked) (is.did.keeps v st tells)) in
           at_on n m e x turn old new before now did τ L (on τ L stands tells law) history unforged whole ready stands tells;
       shown = shown;

@@ -10,7 +10,7 @@ use Rattle.bench_base.specs.declared.events.Event.TheVariants as ev
 use Rattle.bench_base.specs.declared.events.Reply.{Reply}
 use Rattle.bench_base.specs.declared.events.Reply.TheVariants as r
 use Rattle.bench_base.specs.Ledger.{Ledger}
-use Rattle.bench_base.specs.Replies.{Told, Did, Refused, Armed, CameOn, WentOff, LostPower, Faulted, WasDamaged, PrinterFailed, RatesFailed, told_by, MayGet, Hands}
+use Rattle.bench_base.specs.Replies.{ReplyClass, Did, Refused, Armed, CameOn, WentOff, LostPower, Faulted, WasDamaged, PrinterFailed, RatesFailed, class_of, MayGet, Hands}
 use Rattle.node_acts.specs.Plans.{with_commit}
 use Rattle.node_turns.specs.declared.turn.Turn.{Turn}
 use Rattle.node_turns.specs.Adds.{Adds, AddsTold, AddsDone, LeavesOpen, Brings, Nothing, ADay, SomeRates, AMark, AMessage, AMarkInMessage, APrint, brings, is_message, names_message}
@@ -71,7 +71,7 @@ open_sends : (e : Event) (m : Node) (entries : List (Option Entry)) → LeavesOp
 open_sends e m entries (inl is) = ap notes_in is
 open_sends e m entries (inr torn) = ap notes_in torn.2
 
-told_sends : (e : Event) (reply : Reply) (t : Told) (entries : List (Option Entry)) → AddsTold e reply t entries → names_message reply ≡ false → notes_in entries ≡ []
+told_sends : (e : Event) (reply : Reply) (t : ReplyClass) (entries : List (Option Entry)) → AddsTold e reply t entries → names_message reply ≡ false → notes_in entries ≡ []
 told_sends e reply Did entries adds none = done_sends e (brings reply) entries adds none
 told_sends e reply Refused entries adds none = ap notes_in adds
 told_sends e reply (Armed m) entries adds none = ap notes_in adds
@@ -85,7 +85,7 @@ told_sends e reply RatesFailed entries adds none = ap notes_in adds
 
 -- a reply that names no message sends none
 pub sends_none : (e : Event) (turn : Turn) → Adds e turn.reply turn.entries → names_message turn.reply ≡ false → notes_in turn.entries ≡ []
-sends_none e turn adds none = told_sends e turn.reply (told_by turn.reply) turn.entries adds none
+sends_none e turn adds none = told_sends e turn.reply (class_of turn.reply) turn.entries adds none
 
 -- of the replies that a scan of bytes may get none names a message
 pub scan_names : (n : ℕ) (bytes : List ℕ) (reply : Reply) → MayGet (ev.ScanHex n bytes) reply → names_message reply ≡ false

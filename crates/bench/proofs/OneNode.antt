@@ -8,7 +8,7 @@ use Rattle.bench_base.specs.declared.ledger.Commit.{Commit}
 use Rattle.bench_base.specs.declared.ledger.Entry.TheVariants as entry
 use Rattle.bench_base.specs.declared.events.Event.{Event}
 use Rattle.bench_base.specs.declared.events.Reply.TheVariants as r
-use Rattle.bench_base.specs.Replies.{Told, Did, Refused, Armed, CameOn, WentOff, LostPower, Faulted, WasDamaged, PrinterFailed, RatesFailed, told_by, is_failure, tells_failure}
+use Rattle.bench_base.specs.Replies.{ReplyClass, Did, Refused, Armed, CameOn, WentOff, LostPower, Faulted, WasDamaged, PrinterFailed, RatesFailed, class_of, is_failure, tells_failure}
 use Rattle.bench_base.specs.Plans.{Plan}
 use Rattle.bench_base.specs.Nodes.{node_of}
 use Rattle.bench_base.specs.Rules.{todays_rules}
@@ -53,7 +53,7 @@ next_up {S} n (Some s) k v = by (k == n.count v.state + 1)
     by false = refl
 
 -- a reply that tells of no failure leaves no commit open
-next_told : {S X : Type 0} (n : Counting S X) (t : Told) (made : Option (Commit × S)) (v : View S) → is_failure t ≡ false → v.next ≡ None → (view_told n t made v).next ≡ None
+next_told : {S X : Type 0} (n : Counting S X) (t : ReplyClass) (made : Option (Commit × S)) (v : View S) → is_failure t ≡ false → v.next ≡ None → (view_told n t made v).next ≡ None
 next_told n Did None v fine none = none
 next_told n Did (Some x) v fine none = none
 next_told n Refused made v fine none = none
@@ -217,4 +217,4 @@ module _ {K S N C R X : Type 0} (n : Ghosts K S N C R) (g : nv.Ghosts S) (f : fu
 
   pub closes : tells_failure turn.reply ≡ false → torn_of m H ≡ None → torn_of m L ≡ None
   closes fine none = none_mapped (λ c. kind.seen d (c ∷ counted L)) (torn_of m L)
-      (ap (λ (w : View n.Seen). w.next) done.here ∙ next_told n.counting (told_by turn.reply) made v fine (ap (λ (o : Option Commit). option_map (λ c. kind.seen d (c ∷ counted H)) o) none))
+      (ap (λ (w : View n.Seen). w.next) done.here ∙ next_told n.counting (class_of turn.reply) made v fine (ap (λ (o : Option Commit). option_map (λ c. kind.seen d (c ∷ counted H)) o) none))

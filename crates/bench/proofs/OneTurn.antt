@@ -34,10 +34,10 @@ use Rattle.ledger_moves.specs.Tariffs.{Tariff}
 use Rattle.ledger_moves.specs.Histories.{History, Unforged}
 use Rattle.ledger_moves.specs.Moves as ledger
 use Rattle.ledger_moves.specs.Moves.{Moves, plan}
-use Rattle.bench_abstraction.specs.declared.taken.Taken.TheVariants as take
-use Rattle.bench_abstraction.specs.declared.taken.Work.TheVariants as work
+use Rattle.bench_abstraction.specs.declared.routing.Routed.TheVariants as route
+use Rattle.bench_abstraction.specs.declared.routing.OfDay.TheVariants as of_day
 use Rattle.bench_abstraction.specs.Tariff.{quote}
-use Rattle.bench_abstraction.specs.Taken.{taken, as_given}
+use Rattle.bench_abstraction.specs.Routing.{routed, as_given}
 use Rattle.bench_abstraction.specs.Messages.{sent_in}
 use Rattle.bench_abstraction.specs.Follows.{OthersStay, Rests}
 use Rattle.bench.specs.Benches.{Places, Nodes, OneKind, OfState, OfChange, At, Of, By, IsReady, Stands, StoresStand, StoreStandsOff, store_of, devices, centre, host, verifier, BenchOf}
@@ -105,7 +105,7 @@ module _ (n : Nodes) (m : Node) (e x : Event) (turn : Turn) (old new : BenchOf n
     pub adds : Adds x turn.reply turn.entries
     pub uses : (c : Commit) → made_in turn.entries ≡ Some c → (node_of c ≡ m) × UsesFuse n m old new
     pub untouched : OnlyCalls x → tells_failure turn.reply ≡ false → made_in turn.entries ≡ None → new ≡ sending turn old
-    pub there : (k : ℕ) → taken old.messages (quote old.rates) e ≡ Some (take.Work (work.NoMessage k)) → ⊥
+    pub there : (k : ℕ) → routed old.messages (quote old.rates) e ≡ Some (route.OfDay (of_day.NoMessage k)) → ⊥
     pub feed : now.rates ≡ before.rates
     pub mark : Option (List ℕ)
     pub printer : PrinterDid turn.reply mark before.printer now.printer

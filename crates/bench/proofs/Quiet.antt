@@ -27,11 +27,11 @@ use Rattle.node_turns.specs.Turns.{in_order, made_in, turn_of}
 use Rattle.ledger_moves.specs.Tariffs.{Tariff}
 use Rattle.ledger_moves.specs.Histories.{History, Unforged}
 use Rattle.ledger_moves.specs.Moves.{Moves, plan}
-use Rattle.bench_abstraction.specs.declared.taken.Taken.TheVariants as take
-use Rattle.bench_abstraction.specs.declared.taken.Work.{Work}
-use Rattle.bench_abstraction.specs.declared.taken.Work.TheVariants as work
+use Rattle.bench_abstraction.specs.declared.routing.Routed.TheVariants as route
+use Rattle.bench_abstraction.specs.declared.routing.OfDay.{OfDay}
+use Rattle.bench_abstraction.specs.declared.routing.OfDay.TheVariants as of_day
 use Rattle.bench_abstraction.specs.Tariff.{IsOfTexts, quote}
-use Rattle.bench_abstraction.specs.Taken.{taken, as_given}
+use Rattle.bench_abstraction.specs.Routing.{routed, as_given}
 use Rattle.bench_abstraction.proofs.Events.{same_work}
 use Rattle.bench.specs.Benches.{Bench, Places, Nodes, OfState, OfChange, Of, At, IsReady, Stands, StoresStand, BenchOf}
 use Rattle.bench.specs.Outside.{Outside, ReadsRates}
@@ -67,13 +67,13 @@ module _ (n : Nodes) (e x : Event) (text : List ℕ)
 
   -- by what the storages show
   pub record QuietShown : Type 0 where
-    pub does : (today : ℤ) (y : Work) → old.day ≡ Some today → taken old.messages (quote old.rates) e ≡ Some (take.Work y) → DoesAsked n today turn old new before now y
+    pub does : (today : ℤ) (y : OfDay) → old.day ≡ Some today → routed old.messages (quote old.rates) e ≡ Some (route.OfDay y) → DoesAsked n today turn old new before now y
     pub not_read : has_read reply ≡ false
 
-  -- by what is taken of the event
-  pub asking : (x : Work) → taken old.messages (quote old.rates) e ≡ Some (take.Work x) → ((today : ℤ) → old.day ≡ Some today → DoesAsked n today turn old new before now x) → has_read reply ≡ false → QuietShown
+  -- by what is routed of the event
+  pub asking : (x : OfDay) → routed old.messages (quote old.rates) e ≡ Some (route.OfDay x) → ((today : ℤ) → old.day ≡ Some today → DoesAsked n today turn old new before now x) → has_read reply ≡ false → QuietShown
   asking x is does not_read = record {
-    does = λ today y day taken_is. let same : x ≡ y = same_work (sym is ∙ taken_is) in subst (λ (z : Work). DoesAsked n today turn old new before now z) same (does today day);
+    does = λ today y day taken_is. let same : x ≡ y = same_work (sym is ∙ taken_is) in subst (λ (z : OfDay). DoesAsked n today turn old new before now z) same (does today day);
     not_read = not_read;
   }
 
@@ -93,7 +93,7 @@ module _ (n : Nodes) (e x : Event) (text : List ℕ)
     pub dates : (t : ℤ) → e ≡ ev.Day t → turn ≡ turn_of (r.Day t) (entry.Day t ∷ [])
     pub ends : e ≡ ev.End → (new ≡ old) × (turn ≡ turn_of r.End [])
     pub compares : (d : ℕ) → e ≡ ev.Reconcile d → (new ≡ old) × (told ≡ []) × FindsOff n d reply old
-    pub message : (k : ℕ) → taken old.messages (quote old.rates) e ≡ Some (take.Work (work.NoMessage k)) → IsSome old.day → reply ≡ r.NoMessage k
+    pub message : (k : ℕ) → routed old.messages (quote old.rates) e ≡ Some (route.OfDay (of_day.NoMessage k)) → IsSome old.day → reply ≡ r.NoMessage k
     pub unsent : notes_in (in_order told) ≡ []
     pub refused : is_refusal reply ≡ true → (new ≡ old) × (told ≡ [])
     pub untouched : OnlyCalls x → new ≡ old

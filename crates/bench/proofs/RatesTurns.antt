@@ -25,7 +25,7 @@ use Rattle.host_rates.specs.Answers.{answer}
 use Rattle.ledger_moves.specs.Tariffs.{Tariff}
 use Rattle.ledger_moves.specs.Histories.{History}
 use Rattle.ledger_moves.specs.Moves.{plan}
-use Rattle.bench_abstraction.specs.declared.taken.Work.TheVariants as work
+use Rattle.bench_abstraction.specs.declared.routing.OfDay.TheVariants as of_day
 use Rattle.bench_abstraction.specs.Tariff.{IsOfTexts}
 use Rattle.bench_abstraction.proofs.RatesPlans.{plan_of, planned, are_rates, plan_rates}
 use Rattle.bench.specs.Benches.{Nodes, OfState, IsReady, Stands, BenchOf}
@@ -173,7 +173,7 @@ module _ (n : Nodes) (text : List ℕ) (turn : Turn) (today : ℤ)
         prints = so.prints;
       })
       on
-      (λ tells. asking _ _ _ _ _ _ _ _ _ _ work.Rates refl (λ today day. tt) so.not_read)
+      (λ tells. asking _ _ _ _ _ _ _ _ _ _ of_day.Rates refl (λ today day. tt) so.not_read)
 
   keeps_of : (L : Ledger) → Keeps (rates_in L) old.rates → (x : Result RateTable RatesFail) → answer text ≡ x → Keeps (rates_in ((plan_of text x).after ++ L)) (rates_after old.rates x)
   keeps_of L keeps (Ok x) is = are_rates text x is

@@ -38,11 +38,11 @@ use Rattle.ledger_moves.specs.Tariffs.{Tariff}
 use Rattle.ledger_moves.specs.Moves as ledger
 use Rattle.ledger_moves.specs.Moves.{Moves, plan}
 use Rattle.ledger_moves.specs.Histories.{History}
-use Rattle.bench_abstraction.specs.declared.taken.Taken.TheVariants as take
-use Rattle.bench_abstraction.specs.declared.taken.Work.{Work}
-use Rattle.bench_abstraction.specs.declared.taken.Work.TheVariants as work
+use Rattle.bench_abstraction.specs.declared.routing.Routed.TheVariants as route
+use Rattle.bench_abstraction.specs.declared.routing.OfDay.{OfDay}
+use Rattle.bench_abstraction.specs.declared.routing.OfDay.TheVariants as of_day
 use Rattle.bench_abstraction.specs.Tariff.{quote}
-use Rattle.bench_abstraction.specs.Taken.{taken, as_given}
+use Rattle.bench_abstraction.specs.Routing.{routed, as_given}
 use Rattle.bench.specs.Benches.{Bench, BenchOf, Places, Nodes, At, Stands, StoresStand, ForEach, store_of}
 use Rattle.bench.specs.Outside.{Outside, ReadsRates}
 
@@ -144,22 +144,22 @@ module _ (n : Nodes) where
       → (reply ≡ r.OffNode Centre) ↔ ((n.devices.is_on s ≡ true) × (n.centre.is_on old.centre ≡ false))
 
   -- what this asks on that day was done: of a node as any view allows for which it stood; and two nodes are compared as any two views show
-  abbrev pub DoesAsked : ℤ → Turn → BenchOf n → BenchOf n → Outside → Outside → Work → Type 0
-  DoesAsked today turn old new before now work.Rates = Unit {0}
-  DoesAsked today turn old new before now (work.NoMessage k) = Unit {0}
-  DoesAsked today turn old new before now (work.Reconcile d) = (i : ℕ) (s : n.Devices) → d ≡ i + 1 → slice_get old.devices i ≡ Some s → ComparesViews d turn.reply old.centre s
-  DoesAsked today turn old new before now (work.Device d asked) = (i : ℕ) (s t : n.Devices) → d ≡ i + 1 → slice_get old.devices i ≡ Some s → slice_get new.devices i ≡ Some t
+  abbrev pub DoesAsked : ℤ → Turn → BenchOf n → BenchOf n → Outside → Outside → OfDay → Type 0
+  DoesAsked today turn old new before now of_day.Rates = Unit {0}
+  DoesAsked today turn old new before now (of_day.NoMessage k) = Unit {0}
+  DoesAsked today turn old new before now (of_day.Reconcile d) = (i : ℕ) (s : n.Devices) → d ≡ i + 1 → slice_get old.devices i ≡ Some s → ComparesViews d turn.reply old.centre s
+  DoesAsked today turn old new before now (of_day.Device d asked) = (i : ℕ) (s t : n.Devices) → d ≡ i + 1 → slice_get old.devices i ≡ Some s → slice_get new.devices i ≡ Some t
       → MovesViews n.devices n.storage n.kinds.devices (Device d) d today asked turn s t
-  DoesAsked today turn old new before now (work.Centre asked) = MovesViews n.centre n.storage n.kinds.centre Centre tt today asked turn old.centre new.centre
-  DoesAsked today turn old new before now (work.Host asked) =
+  DoesAsked today turn old new before now (of_day.Centre asked) = MovesViews n.centre n.storage n.kinds.centre Centre tt today asked turn old.centre new.centre
+  DoesAsked today turn old new before now (of_day.Host asked) =
       MovesViews n.host n.storage n.kinds.host Host tt today asked turn old.host new.host × PrintsViews n.host n.storage n.kinds.host Host tt today asked turn old.host before now
-  DoesAsked today turn old new before now (work.Verifier asked) = MovesViews n.verifier n.storage n.kinds.verifier Verifier tt today asked turn old.verifier new.verifier
+  DoesAsked today turn old new before now (of_day.Verifier asked) = MovesViews n.verifier n.storage n.kinds.verifier Verifier tt today asked turn old.verifier new.verifier
 
   -- By what the storages show, whether or not a history leads to it: the event does what any view allows for which its node stood,
   -- and compares what any two views show; one that commits nothing writes nothing; and damage is told if and only if the storage
   -- that an `on` read is none of the node.
   pub record StepsByViews (e : Event) (turn : Turn) (old new : BenchOf n) (before now : Outside) : Type 0 where
-    pub does : (today : ℤ) (x : Work) → old.day ≡ Some today → taken old.messages (quote old.rates) e ≡ Some (take.Work x) → DoesAsked today turn old new before now x
+    pub does : (today : ℤ) (x : OfDay) → old.day ≡ Some today → routed old.messages (quote old.rates) e ≡ Some (route.OfDay x) → DoesAsked today turn old new before now x
     pub unwritten : may_commit e ≡ false → (m : Node) → At n (λ k i d s t. Mounts (times_of k.ghosts n.storage s) (times_of k.ghosts n.storage t)) old new m
     pub damaged : (m : Node) → e ≡ ev.On m → has_read turn.reply ≡ true → At n (λ k i d s t. (turn.reply ≡ r.Damaged i) ↔ HasDamage k.ghosts d t) old new m
 
@@ -180,7 +180,7 @@ module _ (n : Nodes) where
     pub dates : (t : ℤ) → e ≡ ev.Day t → turn ≡ turn_of (r.Day t) (entry.Day t ∷ [])
     pub ends : e ≡ ev.End → (new ≡ old) × (turn ≡ turn_of r.End [])
     pub compares : (d : ℕ) → e ≡ ev.Reconcile d → (new ≡ old) × (turn.entries ≡ in_order []) × FindsOff d turn.reply old
-    pub message : (k : ℕ) → taken old.messages (quote old.rates) e ≡ Some (take.Work (work.NoMessage k)) → IsSome old.day → turn.reply ≡ r.NoMessage k
+    pub message : (k : ℕ) → routed old.messages (quote old.rates) e ≡ Some (route.OfDay (of_day.NoMessage k)) → IsSome old.day → turn.reply ≡ r.NoMessage k
     pub sends : new.messages ≡ old.messages ++ notes_in turn.entries
     pub refused : is_refusal turn.reply ≡ true → (new ≡ old) × (turn.entries ≡ in_order [])
     pub adds : Adds (as_given old.messages e) turn.reply turn.entries

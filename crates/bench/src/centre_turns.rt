@@ -1,9 +1,9 @@
 //! The calls of the centre.
 use crate::node_turn::Turns;
+use bench_abstraction::CentreCall;
 use bench_base::numbers::DayNo;
 use bench_base::stream::Sink;
 use call_handlers::{CentreCallee, hands_bytes};
-use bench_abstraction::CentreCall;
 use centre_protocol::CentreNode;
 use node_storage::Node;
 use node_turns::{Tell, call_node};

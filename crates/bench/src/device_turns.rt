@@ -6,11 +6,11 @@ ghost use Rattle.bench_abstraction.specs.Devices.{device_kind};
 ghost use Rattle.bench.specs.Calls.{DeviceTurn};
 
 use crate::node_turn::{Turns, node_turn};
+use bench_abstraction::DeviceCall;
 use bench_base::numbers::{DayNo, DevNo};
 use bench_base::stream::Sink;
 use bench_base::words::Node as NodeNo;
 use call_handlers::{DeviceCallee, StatusCall};
-use bench_abstraction::DeviceCall;
 use node_acts::Asked;
 use node_storage::Node;
 use node_turns::{Tell, call_node};

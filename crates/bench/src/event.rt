@@ -15,13 +15,13 @@ use crate::comparing::compare;
 use crate::device_turns::device_turn;
 use crate::node_turn::node_turn;
 use crate::rates::read_turn;
+use bench_abstraction::laws::{host_follows, nodes_follow, verifier_follows};
+use bench_abstraction::{OfDay, Routed, route};
 use bench_base::events::{Event, Reply};
 use bench_base::ledger::Entry;
 use bench_base::numbers::DayNo;
 use bench_base::stream::{Sink, Source};
 use bench_base::words::Node as NodeNo;
-use bench_abstraction::laws::{host_follows, nodes_follow, verifier_follows};
-use bench_abstraction::{Taken, Work, take};
 use host_rates::laws::prices_by_text;
 use node_turns::{Sending, Tell, Turn};
 use nv_model::{Fuse, Nv};
@@ -80,34 +80,34 @@ fn turn_of<T: Tell, M: Fuse + Drop, N: Nv, P: Sink>(
     verifier_follows();
     prices_by_text();
     let today = bench.day;
-    let found = take(event, &bench.messages, &bench.rates);
+    let found = route(event, &bench.messages, &bench.rates);
     let Some(taken) = &found else {
         unreachable!();
     };
     match taken {
-        Taken::Day(day) => {
+        Routed::Day(day) => {
             bench.day = Some(*day);
             begun(*day)
         }
-        Taken::End => T::silent(Reply::End),
-        Taken::Work(work) => match today {
+        Routed::End => T::silent(Reply::End),
+        Routed::OfDay(work) => match today {
             None => T::silent(Reply::NoDay),
             Some(day) => match work {
-                Work::Rates => unreachable!(),
-                Work::NoMessage(number) => T::silent(Reply::NoMessage(*number)),
-                Work::Reconcile(device) => {
+                OfDay::Rates => unreachable!(),
+                OfDay::NoMessage(number) => T::silent(Reply::NoMessage(*number)),
+                OfDay::Reconcile(device) => {
                     T::silent(compare(*device, &bench.devices, &bench.centre))
                 }
-                Work::Device(device, asked) => {
+                OfDay::Device(device, asked) => {
                     device_turn(&mut bench.devices, *device, day, asked, printer)
                 }
-                Work::Centre(asked) => {
+                OfDay::Centre(asked) => {
                     node_turn(&mut bench.centre, (), &NodeNo::Centre, day, asked, printer)
                 }
-                Work::Host(asked) => {
+                OfDay::Host(asked) => {
                     node_turn(&mut bench.host, (), &NodeNo::Host, day, asked, printer)
                 }
-                Work::Verifier(asked) => {
+                OfDay::Verifier(asked) => {
                     node_turn(
                         &mut bench.verifier,
                         (),

@@ -1,9 +1,9 @@
 //! The calls of the host, and what the printer takes in them.
 use crate::node_turn::Turns;
+use bench_abstraction::HostCall;
 use bench_base::numbers::DayNo;
 use bench_base::stream::Sink;
 use call_handlers::HostCallee;
-use bench_abstraction::HostCall;
 use host_node::HostNode;
 use node_storage::Node;
 use node_turns::{Tell, call_printing};

@@ -1,9 +1,9 @@
 //! The calls of the verifier.
 use crate::node_turn::Turns;
+use bench_abstraction::VerifierCall;
 use bench_base::numbers::DayNo;
 use bench_base::stream::Sink;
 use call_handlers::{VerifierCallee, scans_bytes};
-use bench_abstraction::VerifierCall;
 use node_storage::Node;
 use node_turns::{Tell, call_node};
 use nv_model::Fuse;

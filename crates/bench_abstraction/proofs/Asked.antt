@@ -7,7 +7,7 @@ use Rattle.bench_base.specs.declared.ledger.Commit.{Commit}
 use Rattle.bench_base.specs.declared.ledger.Entry.TheVariants as entry
 use Rattle.bench_base.specs.declared.events.Reply.{Reply}
 use Rattle.bench_base.specs.declared.events.Reply.TheVariants as r
-use Rattle.bench_base.specs.Replies.{Told, Did, Refused, Armed, CameOn, WentOff, LostPower, Faulted, WasDamaged, PrinterFailed, RatesFailed}
+use Rattle.bench_base.specs.Replies.{ReplyClass, Did, Refused, Armed, CameOn, WentOff, LostPower, Faulted, WasDamaged, PrinterFailed, RatesFailed}
 use Rattle.bench_base.specs.Nodes.{node_of}
 use Rattle.bench_base.specs.Plans.{Plan, refuse, made, told}
 use Rattle.bench_base.specs.Ledger.{Ledger, is_on}
@@ -69,7 +69,7 @@ pub record IsTame (p : Plan) : Type 0 where
 quiet_tame : (x : Reply) → IsTame (refuse x)
 quiet_tame x = record { none = tt; few = tt }
 
-pub few_after : (p : Plan) (t : Told) → IsTame p → IsFew (after_told p t [])
+pub few_after : (p : Plan) (t : ReplyClass) → IsTame p → IsFew (after_told p t [])
 few_after p t tame = by t
   where
     torn : (o : Option Commit) (m : Node) → IsFew (with_torn o m [])
@@ -80,7 +80,7 @@ few_after p t tame = by t
     made_one None = tt
     made_one (Some c) = (omega arith, tt)
 
-    by : (u : Told) → IsFew (after_told p u [])
+    by : (u : ReplyClass) → IsFew (after_told p u [])
     by Did = tame.few
     by Refused = tame.few
     by (Armed m) = tame.few

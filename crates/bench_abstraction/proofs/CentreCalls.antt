@@ -56,10 +56,10 @@ use Rattle.node_acts.specs.Acts.{OfCommit}
 use Rattle.node_acts.proofs.OfCommits.{of_commit, of_both, commit_says}
 use Rattle.bench_abstraction.specs.declared.calls.CentreCall.{CentreCall}
 use Rattle.bench_abstraction.specs.declared.calls.CentreCall.TheVariants as call
-use Rattle.bench_abstraction.specs.declared.taken.Taken.TheVariants as take
-use Rattle.bench_abstraction.specs.declared.taken.Work.TheVariants as work
-use Rattle.bench_abstraction.specs.Taken as takes
-use Rattle.bench_abstraction.specs.Taken.{taken}
+use Rattle.bench_abstraction.specs.declared.routing.Routed.TheVariants as route
+use Rattle.bench_abstraction.specs.declared.routing.OfDay.TheVariants as of_day
+use Rattle.bench_abstraction.specs.Routing as routing
+use Rattle.bench_abstraction.specs.Routing.{routed}
 use Rattle.bench_abstraction.specs.Tariff.{Quote}
 use Rattle.bench_abstraction.specs.Centre.{seen_in, centre_act, centre_kind, place_in, AreBytes}
 use Rattle.bench_abstraction.specs.Messages.{sent_in}
@@ -176,10 +176,10 @@ call_quiet (call.Take c) b = quiet_says r.CentreRefused (told.told_taken c.messa
 -- == what it is handed ==
 
 -- a message that was sent names a device that is there, so the centre takes only what is for it
-for_device : (d : ℕ) → IsDevice d → takes.device_node d ≡ Centre → Device d ≡ Centre
+for_device : (d : ℕ) → IsDevice d → routing.device_node d ≡ Centre → Device d ≡ Centre
 for_device d own is = subst (λ (there : Bool). (if there then Device d else Centre) ≡ Centre) (one_of_eight d own) is
 
-for_centre : (x : Message) → IsAddressed x → takes.stand_in (addressee (Ok x)) ≡ Centre → addressee (Ok x) ≡ Centre
+for_centre : (x : Message) → IsAddressed x → routing.stand_in (addressee (Ok x)) ≡ Centre → addressee (Ok x) ≡ Centre
 for_centre (m.Request q) own is = is
 for_centre (m.Done q) own is = is
 for_centre (m.Release x) own is = is
@@ -269,17 +269,17 @@ module _ (H : Ledger) (known : IsKnown (seen_in (counted H))) (are : AreBooksOf 
       ap (λ (k : ℕ). at_node Centre H (take_plan k bytes C)) (sym (sent_many H)) ∙ at (told.told_taken (length (sent_in H))) (acts.take_by bytes) (take_good bytes is)
 
   -- a message that the centre takes is for it
-  delivered : (today : ℤ) (k : ℕ) (bytes : List ℕ) → message k H ≡ Some bytes → takes.taker bytes ≡ Centre → deliver_plan todays_rules today k (message k H) H ≡ give_plan todays_rules today Centre bytes H
+  delivered : (today : ℤ) (k : ℕ) (bytes : List ℕ) → message k H ≡ Some bytes → routing.taker bytes ≡ Centre → deliver_plan todays_rules today k (message k H) H ≡ give_plan todays_rules today Centre bytes H
   delivered today k bytes there to =
       let x = sent bytes (message_sent k bytes H there) in
-      let named : addressee (read bytes) ≡ Centre = ap addressee x.1 ∙ for_centre x.0 x.2 (subst (λ (y : Result Message Unread). takes.stand_in (addressee y) ≡ Centre) x.1 to) in
+      let named : addressee (read bytes) ≡ Centre = ap addressee x.1 ∙ for_centre x.0 x.2 (subst (λ (y : Result Message Unread). routing.stand_in (addressee y) ≡ Centre) x.1 to) in
       ap (λ (o : Option (List ℕ)). deliver_plan todays_rules today k o H) there ∙ ap (λ (n : Node). give_plan todays_rules today n bytes H) named
 
   abbrev ByView : ℤ → Asked CentreCall → Plan
   ByView today asked = node_plan counting Centre (centre_kind.plan tt today (centre_view H)) (centre_view H) asked
 
   pub planned_call : (τ : Tariff) (today : ℤ) (quote : Quote) → day_in H ≡ Some today → commits_in (seen_in C) ≡ count_of Centre C → (e : Event) (asked : Asked CentreCall)
-      → taken (sent_in H) quote e ≡ Some (take.Work (work.Centre asked)) → IsWholeEvent e → AreBytes asked → plan τ todays_rules H e [] ≡ ByView today asked
+      → routed (sent_in H) quote e ≡ Some (route.OfDay (of_day.Centre asked)) → IsWholeEvent e → AreBytes asked → plan τ todays_rules H e [] ≡ ByView today asked
   unfolding plan
   planned_call τ today quote day counts = each_of_centre (sent_in H) quote (λ e asked. IsWholeEvent e → AreBytes asked → plan τ todays_rules H e [] ≡ ByView today asked) (record {
     on = λ whole bytes. rw (day, sym counts) refl;
@@ -300,7 +300,7 @@ abbrev IsWholeAsked : Asked CentreCall → Type 0
 IsWholeAsked = OfCall IsWholeCall
 
 -- they are those of its event, and of what it hands over
-pub whole_call : (H : Ledger) (quote : Quote) (e : Event) (c : CentreCall) → taken (sent_in H) quote e ≡ Some (take.Work (work.Centre (Call c))) → IsWholeEvent e → AreBytes (Call c) → IsWholeCall c
+pub whole_call : (H : Ledger) (quote : Quote) (e : Event) (c : CentreCall) → routed (sent_in H) quote e ≡ Some (route.OfDay (of_day.Centre (Call c))) → IsWholeEvent e → AreBytes (Call c) → IsWholeCall c
 whole_call H quote e c of = each_of_centre (sent_in H) quote (λ i asked. IsWholeEvent i → AreBytes asked → IsWholeAsked asked) (record {
   on = λ whole bytes. tt;
   off = λ whole bytes. tt;

@@ -8,7 +8,7 @@ use Rattle.bench_base.specs.declared.events.Reply.{Reply}
 use Rattle.bench_base.specs.Rules.{todays_rules}
 use Rattle.bench_base.specs.Nodes.{node_of}
 use Rattle.bench_base.specs.Plans.{Plan}
-use Rattle.bench_base.specs.Replies.{told_by}
+use Rattle.bench_base.specs.Replies.{class_of}
 use Rattle.bench_base.specs.Ranges.{IsWholeEvent}
 use Rattle.bench_base.specs.Ledger.{Ledger, count_of, torn_of, is_on, counted}
 use Rattle.node_acts.specs.declared.asked.Asked.{Asked}
@@ -56,8 +56,8 @@ module _ {N S X C : Type 0} (n : Counting S X) (kind : Kind N S C) (m : Node) (d
             verifier = λ differs. others H opens n m (kind.seen d) Verifier differs _ verifier_apart reply made _ next step;
           };
           rests = rests H opens n m (kind.seen d) reply made _ step;
-          sent = subst (λ (q : Plan). sent_in (after q reply H) ≡ sent_in H ++ sent_in (after q reply [])) (sym planned) (sent_after p (told_by reply) H tame.none);
-          few = subst (λ (q : Plan). IsFew (after q reply [])) (sym planned) (few_after p (told_by reply) tame);
+          sent = subst (λ (q : Plan). sent_in (after q reply H) ≡ sent_in H ++ sent_in (after q reply [])) (sym planned) (sent_after p (class_of reply) H tame.none);
+          few = subst (λ (q : Plan). IsFew (after q reply [])) (sym planned) (few_after p (class_of reply) tame);
         };
   }
     where

@@ -18,9 +18,9 @@ use Rattle.ledger_laws.proofs.Histories.{message_sent}
 use Rattle.ledger_moves.specs.Histories.{Unforged, IsKnown}
 use Rattle.bench_abstraction.specs.declared.calls.DeviceCall.{DeviceCall}
 use Rattle.bench_abstraction.specs.declared.calls.DeviceCall.TheVariants.{Make, Debit, Ask, Resend, Ack, Status, Take}
-use Rattle.bench_abstraction.specs.declared.taken.Taken.TheVariants as take
-use Rattle.bench_abstraction.specs.declared.taken.Work.TheVariants as work
-use Rattle.bench_abstraction.specs.Taken.{taken}
+use Rattle.bench_abstraction.specs.declared.routing.Routed.TheVariants as route
+use Rattle.bench_abstraction.specs.declared.routing.OfDay.TheVariants as of_day
+use Rattle.bench_abstraction.specs.Routing.{routed}
 use Rattle.bench_abstraction.specs.Tariff.{Quote}
 use Rattle.bench_abstraction.specs.Messages.{sent_in}
 use Rattle.bench_abstraction.proofs.Events.{each_asked}
@@ -54,7 +54,7 @@ module _ (H : Ledger) (replied : RepliesAreRuled H) where
       let sent = subst (λ (x : Result Message Unread). IsKnown bytes x (Device d) H) reads known (ap Device (sym own)) key (ap (λ (e : ℕ). key_of e (counted H)) own ∙ made) coded in
       replied bytes p sent reads
 
-  pub genuine : (quote : Quote) (e : Event) (d : ℕ) (asked : Asked DeviceCall) → taken (sent_in H) quote e ≡ Some (take.Work (work.Device d asked)) → Unforged e H → OfAsked H d asked
+  pub genuine : (quote : Quote) (e : Event) (d : ℕ) (asked : Asked DeviceCall) → routed (sent_in H) quote e ≡ Some (route.OfDay (of_day.Device d asked)) → Unforged e H → OfAsked H d asked
   genuine quote = each_asked (sent_in H) quote (λ e d asked. Unforged e H → OfAsked H d asked) (record {
     on = λ d known. tt;
     off = λ d known. tt;

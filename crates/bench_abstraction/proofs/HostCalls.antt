@@ -42,10 +42,10 @@ use Rattle.host_jobs.specs.SeenLaws.{SeenLaws}
 use Rattle.host_jobs.specs.Turns.{InTurn}
 use Rattle.bench_abstraction.specs.declared.calls.HostCall.{HostCall}
 use Rattle.bench_abstraction.specs.declared.calls.HostCall.TheVariants as call
-use Rattle.bench_abstraction.specs.declared.taken.Taken.TheVariants as take
-use Rattle.bench_abstraction.specs.declared.taken.Work.TheVariants as work
-use Rattle.bench_abstraction.specs.Taken as takes
-use Rattle.bench_abstraction.specs.Taken.{taken}
+use Rattle.bench_abstraction.specs.declared.routing.Routed.TheVariants as route
+use Rattle.bench_abstraction.specs.declared.routing.OfDay.TheVariants as of_day
+use Rattle.bench_abstraction.specs.Routing as routing
+use Rattle.bench_abstraction.specs.Routing.{routed}
 use Rattle.bench_abstraction.specs.Tariff.{Quote, quote_in}
 use Rattle.bench_abstraction.specs.Host.{host_act, host_kind}
 use Rattle.bench_abstraction.specs.Messages.{sent_in}
@@ -188,7 +188,7 @@ module _ (H : Ledger) (known : IsKnown (seen_after (counted H))) (turn : InTurn 
   handed today bytes = at told.told_held (acts.take_act bytes rows) (take_good bytes) (acts.take_by bytes (told.in_commits C)) (plans.taken bytes)
 
   -- a message that the host takes is for it
-  delivered : (today : ℤ) (k : ℕ) (bytes : List ℕ) → slice_get (sent_in H) k ≡ Some bytes → takes.taker bytes ≡ Host → deliver_plan todays_rules today k (message k H) H ≡ give_plan todays_rules today Host bytes H
+  delivered : (today : ℤ) (k : ℕ) (bytes : List ℕ) → slice_get (sent_in H) k ≡ Some bytes → routing.taker bytes ≡ Host → deliver_plan todays_rules today k (message k H) H ≡ give_plan todays_rules today Host bytes H
   delivered today k bytes there to =
       ap (λ (o : Option (List ℕ)). deliver_plan todays_rules today k o H) (sym (sent_at H k) ∙ there)
       ∙ ap (λ (n : Node). give_plan todays_rules today n bytes H) (same_taker (addressee (read bytes)) Host (λ same. cc) to)
@@ -197,7 +197,7 @@ module _ (H : Ledger) (known : IsKnown (seen_after (counted H))) (turn : InTurn 
   ByView today asked = node_plan counting Host (host_kind.plan tt today (host_view H)) (host_view H) asked
 
   pub planned_call : (τ : Tariff) (today : ℤ) → day_in H ≡ Some today → commits_in (seen_after C) ≡ count_of Host C → (e : Event) (asked : Asked HostCall)
-      → taken (sent_in H) (quote_in τ H) e ≡ Some (take.Work (work.Host asked)) → IsWholeEvent e → plan τ todays_rules H e [] ≡ ByView today asked
+      → routed (sent_in H) (quote_in τ H) e ≡ Some (route.OfDay (of_day.Host asked)) → IsWholeEvent e → plan τ todays_rules H e [] ≡ ByView today asked
   unfolding plan
   planned_call τ today day counts = each_of_host (sent_in H) (quote_in τ H) (λ e asked. IsWholeEvent e → plan τ todays_rules H e [] ≡ ByView today asked) (record {
     on = λ whole. rw (day, sym counts) refl;
@@ -219,7 +219,7 @@ abbrev IsWholeAsked : Asked HostCall → Type 0
 IsWholeAsked = OfCall IsWholeCall
 
 -- they are those of its event
-pub whole_call : (H : Ledger) (quote : Quote) (e : Event) (c : HostCall) → taken (sent_in H) quote e ≡ Some (take.Work (work.Host (Call c))) → IsWholeEvent e → IsWholeCall c
+pub whole_call : (H : Ledger) (quote : Quote) (e : Event) (c : HostCall) → routed (sent_in H) quote e ≡ Some (route.OfDay (of_day.Host (Call c))) → IsWholeEvent e → IsWholeCall c
 whole_call H quote e c of = each_of_host (sent_in H) quote (λ i asked. IsWholeEvent i → IsWholeAsked asked) (record {
   on = λ whole. tt;
   off = λ whole. tt;

@@ -10,25 +10,25 @@ use Rattle.bench_base.specs.Rules.{todays_rules}
 use Rattle.bench_base.specs.Ledger.{Ledger, day_in}
 use Rattle.ledger_moves.specs.Tariffs.{Tariff}
 use Rattle.ledger_moves.specs.Moves.{plan}
-use Rattle.bench_abstraction.specs.declared.taken.Taken.{Taken}
-use Rattle.bench_abstraction.specs.declared.taken.Taken.TheVariants as take
-use Rattle.bench_abstraction.specs.declared.taken.Work.TheVariants as work
+use Rattle.bench_abstraction.specs.declared.routing.Routed.{Routed}
+use Rattle.bench_abstraction.specs.declared.routing.Routed.TheVariants as route
+use Rattle.bench_abstraction.specs.declared.routing.OfDay.TheVariants as of_day
 use Rattle.bench_abstraction.specs.Tariff.{Quote}
-use Rattle.bench_abstraction.specs.Taken.{taken, as_given}
+use Rattle.bench_abstraction.specs.Routing.{routed, as_given}
 use Rattle.bench_abstraction.proofs.Events.{each_quiet, IsOfNone}
 
-abbrev pub IsQuietAs : List (List ℕ) → Event → Taken → Type 0
-IsQuietAs pool e (take.Day t) = e ≡ ev.Day t
-IsQuietAs pool e take.End = e ≡ ev.End
-IsQuietAs pool e (take.Work work.Rates) = e ≡ ev.Rates
-IsQuietAs pool e (take.Work (work.NoMessage k)) = (as_given pool e ≡ e) × ((e ≡ ev.Deliver k) ⊎ ((scan : ℕ) × (e ≡ ev.ScanMsg scan k)))
-IsQuietAs pool e (take.Work (work.Reconcile d)) = e ≡ ev.Reconcile d
-IsQuietAs pool e (take.Work (work.Device d asked)) = Unit {0}
-IsQuietAs pool e (take.Work (work.Centre asked)) = Unit {0}
-IsQuietAs pool e (take.Work (work.Host asked)) = Unit {0}
-IsQuietAs pool e (take.Work (work.Verifier asked)) = Unit {0}
+abbrev pub IsQuietAs : List (List ℕ) → Event → Routed → Type 0
+IsQuietAs pool e (route.Day t) = e ≡ ev.Day t
+IsQuietAs pool e route.End = e ≡ ev.End
+IsQuietAs pool e (route.OfDay of_day.Rates) = e ≡ ev.Rates
+IsQuietAs pool e (route.OfDay (of_day.NoMessage k)) = (as_given pool e ≡ e) × ((e ≡ ev.Deliver k) ⊎ ((scan : ℕ) × (e ≡ ev.ScanMsg scan k)))
+IsQuietAs pool e (route.OfDay (of_day.Reconcile d)) = e ≡ ev.Reconcile d
+IsQuietAs pool e (route.OfDay (of_day.Device d asked)) = Unit {0}
+IsQuietAs pool e (route.OfDay (of_day.Centre asked)) = Unit {0}
+IsQuietAs pool e (route.OfDay (of_day.Host asked)) = Unit {0}
+IsQuietAs pool e (route.OfDay (of_day.Verifier asked)) = Unit {0}
 
-pub quiet_is : (pool : List (List ℕ)) (q : Quote) (e : Event) (x : Taken) → taken pool q e ≡ Some x → IsOfNone pool q x → IsQuietAs pool e x
+pub quiet_is : (pool : List (List ℕ)) (q : Quote) (e : Event) (x : Routed) → routed pool q e ≡ Some x → IsOfNone pool q x → IsQuietAs pool e x
 quiet_is pool q e x is of = each_quiet pool q (IsQuietAs pool) (record {
   day = λ t. refl;
   end = refl;

@@ -50,10 +50,10 @@ use Rattle.ledger_moves.specs.Devices.{record_in, record_with}
 use Rattle.ledger_moves.specs.Moves.{plan, at_node, debit_by, addressee, deliver_plan, give_plan}
 use Rattle.bench_abstraction.specs.declared.calls.DeviceCall.{DeviceCall}
 use Rattle.bench_abstraction.specs.declared.calls.DeviceCall.TheVariants.{Make, Debit, Ask, Resend, Ack, Status, Take}
-use Rattle.bench_abstraction.specs.declared.taken.Taken.TheVariants as take
-use Rattle.bench_abstraction.specs.declared.taken.Work.TheVariants as work
-use Rattle.bench_abstraction.specs.Taken as takes
-use Rattle.bench_abstraction.specs.Taken.{taken}
+use Rattle.bench_abstraction.specs.declared.routing.Routed.TheVariants as route
+use Rattle.bench_abstraction.specs.declared.routing.OfDay.TheVariants as of_day
+use Rattle.bench_abstraction.specs.Routing as routing
+use Rattle.bench_abstraction.specs.Routing.{routed}
 use Rattle.bench_abstraction.specs.Tariff.{Quote}
 use Rattle.bench_abstraction.specs.Devices.{seen_in, asked, took, device_act, device_kind, IsKnown}
 use Rattle.bench_abstraction.specs.Messages.{sent_in}
@@ -224,7 +224,7 @@ module _ (H : Ledger) (resending : ResendingRepeats) where
         ap (λ (n : ℕ). at_node (Device d) H (device.device_take todays_rules n today d bytes (read bytes) C (key_of d C))) is ∙ by_plan _ today (Take (record { bytes = bytes; message = k })) (take_is bytes today k (key_of d C))
 
   -- a message that device d takes is for it
-  delivered : (today : ℤ) (k d : ℕ) (bytes : List ℕ) → slice_get (sent_in H) k ≡ Some bytes → takes.taker bytes ≡ Device d → deliver_plan todays_rules today k (message k H) H ≡ give_plan todays_rules today (Device d) bytes H
+  delivered : (today : ℤ) (k d : ℕ) (bytes : List ℕ) → slice_get (sent_in H) k ≡ Some bytes → routing.taker bytes ≡ Device d → deliver_plan todays_rules today k (message k H) H ≡ give_plan todays_rules today (Device d) bytes H
   delivered today k d bytes there to =
       ap (λ (o : Option (List ℕ)). deliver_plan todays_rules today k o H) (sym (sent_at H k) ∙ there)
       ∙ ap (λ (n : Node). give_plan todays_rules today n bytes H) (same_taker (addressee (read bytes)) (Device d) (λ same. cc) to)
@@ -235,7 +235,7 @@ module _ (H : Ledger) (resending : ResendingRepeats) where
   abbrev IsPlanned : Tariff → ℤ → Event → ℕ → AskedOf DeviceCall → Type 0
   IsPlanned τ today e d asked = KnownAt d → plan τ todays_rules H e [] ≡ node_plan counting (Device d) (device_kind.plan d today (device_view d H)) (device_view d H) asked
 
-  pub planned : (τ : Tariff) (today : ℤ) (quote : Quote) → day_in H ≡ Some today → (e : Event) (d : ℕ) (asked : AskedOf DeviceCall) → taken (sent_in H) quote e ≡ Some (take.Work (work.Device d asked)) → IsPlanned τ today e d asked
+  pub planned : (τ : Tariff) (today : ℤ) (quote : Quote) → day_in H ≡ Some today → (e : Event) (d : ℕ) (asked : AskedOf DeviceCall) → routed (sent_in H) quote e ≡ Some (route.OfDay (of_day.Device d asked)) → IsPlanned τ today e d asked
   unfolding plan
   planned τ today quote day = each_asked (sent_in H) quote (IsPlanned τ today) (record {
     on = λ d known. rw day refl;

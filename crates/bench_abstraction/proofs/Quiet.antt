@@ -21,11 +21,11 @@ use Rattle.centre_ledger.specs.Acts.{CentreAct, LookUps, in_books, stood_act, st
 use Rattle.centre_ledger.specs.Plans.{says, told_standing, in_commits}
 use Rattle.centre_ledger.specs.Seen.{books_in}
 use Rattle.centre_ledger.specs.declared.standing.Standing.{Standing}
-use Rattle.bench_abstraction.specs.declared.taken.Taken.{Taken}
-use Rattle.bench_abstraction.specs.declared.taken.Taken.TheVariants as take
-use Rattle.bench_abstraction.specs.declared.taken.Work.{Work}
-use Rattle.bench_abstraction.specs.declared.taken.Work.TheVariants as work
-use Rattle.bench_abstraction.specs.Taken.{taken}
+use Rattle.bench_abstraction.specs.declared.routing.Routed.{Routed}
+use Rattle.bench_abstraction.specs.declared.routing.Routed.TheVariants as route
+use Rattle.bench_abstraction.specs.declared.routing.OfDay.{OfDay}
+use Rattle.bench_abstraction.specs.declared.routing.OfDay.TheVariants as of_day
+use Rattle.bench_abstraction.specs.Routing.{routed}
 use Rattle.bench_abstraction.specs.Tariff.{Quote}
 use Rattle.bench_abstraction.specs.Comparing.{stood, compared, compare}
 use Rattle.bench_abstraction.specs.Follows.{quiet_by}
@@ -39,13 +39,13 @@ module _ (H : Ledger) (same : in_books (books_in (centre_view H).state) ≡ in_c
   abbrev C : List Commit
   C = counted H
 
-  abbrev Reply_of : Work → Option Reply
+  abbrev Reply_of : OfDay → Option Reply
   Reply_of x = quiet_by bench_kinds H x
 
-  abbrev IsAnswered : Reply → Taken → Type 0
-  IsAnswered reply (take.Day t) = ⊥
-  IsAnswered reply take.End = ⊥
-  IsAnswered reply (take.Work x) = Reply_of x ≡ Some reply
+  abbrev IsAnswered : Reply → Routed → Type 0
+  IsAnswered reply (route.Day t) = ⊥
+  IsAnswered reply route.End = ⊥
+  IsAnswered reply (route.OfDay x) = Reply_of x ≡ Some reply
 
   -- == comparing ==
 
@@ -79,7 +79,7 @@ module _ (H : Ledger) (same : in_books (books_in (centre_view H).state) ≡ in_c
 
   -- == each event ==
 
-  pub planned_quiet : (τ : Tariff) (today : ℤ) (quote : Quote) → day_in H ≡ Some today → (e : Event) (x : Work) → taken (sent_in H) quote e ≡ Some (take.Work x) → (reply : Reply) → Reply_of x ≡ Some reply
+  pub planned_quiet : (τ : Tariff) (today : ℤ) (quote : Quote) → day_in H ≡ Some today → (e : Event) (x : OfDay) → routed (sent_in H) quote e ≡ Some (route.OfDay x) → (reply : Reply) → Reply_of x ≡ Some reply
       → plan τ todays_rules H e [] ≡ refuse reply
   unfolding plan
   planned_quiet τ today quote day e x is reply answers = each_quiet (sent_in H) quote (λ i y. IsAnswered reply y → plan τ todays_rules H i [] ≡ refuse reply) (record {
@@ -89,13 +89,13 @@ module _ (H : Ledger) (same : in_books (books_in (centre_view H).state) ≡ in_c
     reconcile = λ d answers. rw day (compare_is d ∙ ap refuse (same_Some _ _ answers));
     deliver = λ k none answers. rw (day, sym (sent_at H k) ∙ none) (ap refuse (same_Some _ _ answers));
     scan = λ n k none answers. rw (day, sym (sent_at H k) ∙ none) (ap refuse (same_Some _ _ answers));
-  }) e (take.Work x) is (of_none x answers) answers
+  }) e (route.OfDay x) is (of_none x answers) answers
     where
-      of_none : (y : Work) → Reply_of y ≡ Some reply → IsOfNone (sent_in H) quote (take.Work y)
-      of_none work.Rates same = tt
-      of_none (work.NoMessage k) same = tt
-      of_none (work.Reconcile d) same = tt
-      of_none (work.Device d asked) same = absurd (none-some _ same)
-      of_none (work.Centre asked) same = absurd (none-some _ same)
-      of_none (work.Host asked) same = absurd (none-some _ same)
-      of_none (work.Verifier asked) same = absurd (none-some _ same)
+      of_none : (y : OfDay) → Reply_of y ≡ Some reply → IsOfNone (sent_in H) quote (route.OfDay y)
+      of_none of_day.Rates same = tt
+      of_none (of_day.NoMessage k) same = tt
+      of_none (of_day.Reconcile d) same = tt
+      of_none (of_day.Device d asked) same = absurd (none-some _ same)
+      of_none (of_day.Centre asked) same = absurd (none-some _ same)
+      of_none (of_day.Host asked) same = absurd (none-some _ same)
+      of_none (of_day.Verifier asked) same = absurd (none-some _ same)

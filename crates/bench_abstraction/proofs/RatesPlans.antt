@@ -1,4 +1,4 @@
--- Rates by their texts: what a text is reported as, what a piece costs by it, and what is taken by the rates that are kept.
+-- Rates by their texts: what a text is reported as, what a piece costs by it, and what is routed by the rates that are kept.
 use Rattle.std.proofs.Common.{◌≡◌, ℕ, ℤ, List, [], ◌∷◌, length, Option, Some, None, Bool, true, false, Result, Ok, Err, refl, sym, ◌∙◌, ap, subst, if◌then◌else◌}
 use Rattle.std.specs.Prelude.{option_and_then, nat_lt, ok_or}
 use Rattle.bench_base.specs.declared.ledger.Entry.TheVariants as entry
@@ -22,8 +22,8 @@ use Rattle.ledger_moves.specs.Tariffs.{Tariff, NoToml, NoForm}
 use Rattle.ledger_moves.specs.Moves.{plan, rates_plan, reading_plan, price_by}
 use Rattle.bench_abstraction.specs.Tariff.{IsOfTexts, Quote, quote, quote_in}
 use Rattle.bench_abstraction.specs.Messages.{sent_in}
-use Rattle.bench_abstraction.specs.Taken.{taken}
-use Rattle.bench_abstraction.specs.declared.taken.Taken.{Taken}
+use Rattle.bench_abstraction.specs.Routing.{routed}
+use Rattle.bench_abstraction.specs.declared.routing.Routed.{Routed}
 
 -- == what is told of a text ==
 
@@ -72,9 +72,9 @@ priced : (τ : Tariff) → KeptPrices → IsOfTexts τ → (text : Option (List 
 priced τ prices texts None kept keeps class grams zone = prices None kept class grams zone keeps
 priced τ prices texts (Some text) kept keeps class grams zone = prices (Some text) kept class grams zone keeps ∙ ap (λ (p : Result ℕ RateRefusal). Some p) (sym (texts.price text class grams zone))
 
--- what is taken by the rates that are kept is taken by those of the ledger
-pub taken_by : (τ : Tariff) → KeptPrices → IsOfTexts τ → (H : Ledger) (pool : List (List ℕ)) (kept : Option RateTable) (e : Event) (x : Taken) → pool ≡ sent_in H → Keeps (rates_in H) kept
-    → taken pool (quote kept) e ≡ Some x → taken (sent_in H) (quote_in τ H) e ≡ Some x
+-- what is routed by the rates that are kept is routed by those of the ledger
+pub taken_by : (τ : Tariff) → KeptPrices → IsOfTexts τ → (H : Ledger) (pool : List (List ℕ)) (kept : Option RateTable) (e : Event) (x : Routed) → pool ≡ sent_in H → Keeps (rates_in H) kept
+    → routed pool (quote kept) e ≡ Some x → routed (sent_in H) (quote_in τ H) e ≡ Some x
 taken_by τ prices texts H pool kept e x sent keeps is =
     let same : quote kept ≡ quote_in τ H = λ k class grams zone. priced τ prices texts (rates_in H) kept keeps class grams zone k in
-    subst (λ (q : Quote). taken (sent_in H) q e ≡ Some x) same (subst (λ (l : List (List ℕ)). taken l (quote kept) e ≡ Some x) sent is)
+    subst (λ (q : Quote). routed (sent_in H) q e ≡ Some x) same (subst (λ (l : List (List ℕ)). routed l (quote kept) e ≡ Some x) sent is)

@@ -8,7 +8,7 @@ use Rattle.bench_base.specs.declared.ledger.Entry.{Entry}
 use Rattle.bench_base.specs.declared.ledger.Entry.TheVariants as entry
 use Rattle.bench_base.specs.declared.words.Node.{Node}
 use Rattle.bench_base.specs.Plans.{Plan}
-use Rattle.bench_base.specs.Replies.{Told, Did, Refused, Armed, CameOn, WentOff, LostPower, Faulted, WasDamaged, PrinterFailed, RatesFailed}
+use Rattle.bench_base.specs.Replies.{ReplyClass, Did, Refused, Armed, CameOn, WentOff, LostPower, Faulted, WasDamaged, PrinterFailed, RatesFailed}
 use Rattle.bench_base.specs.Ledger.{Ledger, messages, message}
 use Rattle.node_acts.specs.Plans.{after_told, with_commit, with_torn}
 use Rattle.bench_abstraction.specs.Messages.{sent_in, SendsNone}
@@ -59,7 +59,7 @@ sent_more (entry.Begin ∷ T) H none = absurd none
 sent_more (_ ∷ T) H none = sent_more T H none
 
 -- an event of a plan that begins no run adds what it sends
-pub sent_after : (p : Plan) (t : Told) (H : Ledger) → NoBegin p.after → sent_in (after_told p t H) ≡ sent_in H ++ sent_in (after_told p t [])
+pub sent_after : (p : Plan) (t : ReplyClass) (H : Ledger) → NoBegin p.after → sent_in (after_told p t H) ≡ sent_in H ++ sent_in (after_told p t [])
 sent_after p t H none = by t
   where
     commits : (o : Option Commit) (M : Ledger) → sent_in (with_commit o M) ≡ sent_in M
@@ -78,7 +78,7 @@ sent_after p t H none = by t
     nothing : (M N : Ledger) → sent_in M ≡ sent_in H → sent_in N ≡ [] → sent_in M ≡ sent_in H ++ sent_in N
     nothing M N same empty = same ∙ sym (append-nil (sent_in H)) ∙ ap (λ (l : List (List ℕ)). sent_in H ++ l) (sym empty)
 
-    by : (u : Told) → sent_in (after_told p u H) ≡ sent_in H ++ sent_in (after_told p u [])
+    by : (u : ReplyClass) → sent_in (after_told p u H) ≡ sent_in H ++ sent_in (after_told p u [])
     by Did = done
     by Refused = done
     by (Armed m) = done

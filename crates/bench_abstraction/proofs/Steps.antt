@@ -11,7 +11,7 @@ use Rattle.bench_base.specs.declared.events.Reply.{Reply}
 use Rattle.bench_base.specs.declared.events.Reply.TheVariants as r
 use Rattle.bench_base.specs.Nodes.{node_of}
 use Rattle.bench_base.specs.Plans.{Plan, refuse, made, told}
-use Rattle.bench_base.specs.Replies.{Told, Did, Refused, Armed, LostPower, Faulted, PrinterFailed, told_by}
+use Rattle.bench_base.specs.Replies.{ReplyClass, Did, Refused, Armed, LostPower, Faulted, PrinterFailed, class_of}
 use Rattle.bench_base.specs.Ledger.{Ledger, is_on, counted}
 use Rattle.node_acts.specs.declared.act.Act.{Act}
 use Rattle.node_acts.specs.declared.act.Act.TheVariants.{Refuse, Tell, Commits}
@@ -54,30 +54,30 @@ pub data Step {S X : Type 0} (n : Counting S X) (m : Node) (seen : List Commit �
 -- == answers ==
 
 -- the reply tells that what was asked for was done, or refused, and nothing else
-abbrev pub IsPlain : Told → Type 0
+abbrev pub IsPlain : ReplyClass → Type 0
 IsPlain Did = Unit {0}
 IsPlain Refused = Unit {0}
 IsPlain (Armed n) = Unit {0}
 IsPlain _ = ⊥
 
-plain_after : (t : Told) (p : Plan) (H : Ledger) → IsPlain t → after_told p t H ≡ p.after ++ with_commit p.commit H
+plain_after : (t : ReplyClass) (p : Plan) (H : Ledger) → IsPlain t → after_told p t H ≡ p.after ++ with_commit p.commit H
 plain_after Did p H h = refl
 plain_after Refused p H h = refl
 plain_after (Armed n) p H h = refl
 plain_after _ p H h = absurd h
 
-plain_still : {S X : Type 0} (n : Counting S X) (t : Told) (v : View S) → IsPlain t → view_told n t None v ≡ v
+plain_still : {S X : Type 0} (n : Counting S X) (t : ReplyClass) (v : View S) → IsPlain t → view_told n t None v ≡ v
 plain_still n Did v h = refl
 plain_still n Refused v h = refl
 plain_still n (Armed m) v h = refl
 plain_still n _ v h = absurd h
 
 abbrev pub IsQuiet : Reply → Type 0
-IsQuiet y = IsPlain (told_by y)
+IsQuiet y = IsPlain (class_of y)
 
 -- what is said tells that it was done
 abbrev pub IsSaid : Said → Type 0
-IsSaid a = told_by a.reply ≡ Did
+IsSaid a = class_of a.reply ≡ Did
 
 -- so what an act says, or refuses
 abbrev pub IsQuietAct : {X : Type 0} → Act X Reply Said → Type 0
@@ -102,27 +102,27 @@ record Failed (p : Plan) (x : Reply) : Type 0 where
   c : Commit
   is : p.commit ≡ Some c
   own : node_of c ≡ n
-  how : (told_by x ≡ LostPower n) ⊎ (told_by x ≡ Faulted n)
+  how : (class_of x ≡ LostPower n) ⊎ (class_of x ≡ Faulted n)
 
 -- the printer fails after the commit
 abbrev PrinterFails : Reply → Type 0
-PrinterFails x = (j : ℕ) × (told_by x ≡ PrinterFailed j)
+PrinterFails x = (j : ℕ) × (class_of x ≡ PrinterFailed j)
 
 module _ (p : Plan) (x : Reply) (no_up : (n : Node) (k : ℕ) → p.reply ≡ r.Up n k → ⊥) where
-  failing : (n : Node) → (told_by x ≡ LostPower n) ⊎ (told_by x ≡ Faulted n) → MayFail p n → Failed p x
+  failing : (n : Node) → (class_of x ≡ LostPower n) ⊎ (class_of x ≡ Faulted n) → MayFail p n → Failed p x
   failing n how may = ⊎_elim
       (λ (h : (k : ℕ) × (p.reply ≡ r.Up n k)). absurd (no_up n h.0 h.1))
       (λ (h : (c : Commit) × (p.commit ≡ Some c) × (node_of c ≡ n)). record { n = n; c = h.0; is = h.1; own = h.2; how = how })
       may
 
-  failed_told : (t : Told) → told_by x ≡ t → FailsTold p t → Failed p x ⊎ PrinterFails x
+  failed_told : (t : ReplyClass) → class_of x ≡ t → FailsTold p t → Failed p x ⊎ PrinterFails x
   failed_told (LostPower n) is h = inl (failing n (inl is) h)
   failed_told (Faulted n) is h = inl (failing n (inr is) h)
   failed_told (PrinterFailed j) is h = inr (j, is)
   failed_told _ is h = absurd h
 
   failed : Fails p x → Failed p x ⊎ PrinterFails x
-  failed h = failed_told (told_by x) refl h
+  failed h = failed_told (class_of x) refl h
 
 module _ {S X : Type 0} (n : Counting S X) (m : Node) (seen : List Commit → S) (H : Ledger) where
   -- the reply is one that the event of this plan may get
@@ -132,47 +132,47 @@ module _ {S X : Type 0} (n : Counting S X) (m : Node) (seen : List Commit → S)
   abbrev pub Goes : Reply → Option (Commit × S) → Ledger → Type 0
   Goes x made new = Step n m seen H x made new
 
-  no_boot : (y : Reply) → IsPlain (told_by y) → (i : Node) (k : ℕ) → y ≡ r.Up i k → ⊥
-  no_boot y plain i k e = subst (λ (z : Reply). IsPlain (told_by z)) e plain
+  no_boot : (y : Reply) → IsPlain (class_of y) → (i : Node) (k : ℕ) → y ≡ r.Up i k → ⊥
+  no_boot y plain i k e = subst (λ (z : Reply). IsPlain (class_of z)) e plain
 
   -- the reply of the plan itself
-  by_answer : (x y : Reply) (p : Plan) (made : Option (Commit × S)) → x ≡ y → IsPlain (told_by y) → Goes y made (p.after ++ with_commit p.commit H) → Goes x made (after p x H)
-  by_answer x y p made is plain goes = subst (λ (z : Reply). Goes z made (after p z H)) (sym is) (subst (Goes y made) (sym (plain_after (told_by y) p H plain)) goes)
+  by_answer : (x y : Reply) (p : Plan) (made : Option (Commit × S)) → x ≡ y → IsPlain (class_of y) → Goes y made (p.after ++ with_commit p.commit H) → Goes x made (after p x H)
+  by_answer x y p made is plain goes = subst (λ (z : Reply). Goes z made (after p z H)) (sym is) (subst (Goes y made) (sym (plain_after (class_of y) p H plain)) goes)
 
   -- where the printer fails nothing is told, and the commit is as it is
   unprinted : (x : Reply) (p : Plan) → p.commit ≡ None → PrinterFails x → Goes x None (after p x H)
-  unprinted x p none (j, is) = subst (λ (t : Told). Goes x None (after_told p t H)) (sym is)
-      (subst (λ (o : Option Commit). Goes x None (with_commit o H)) (sym none) (does_tell [] tt (λ v. ap (λ (t : Told). view_told n t None v) is)))
+  unprinted x p none (j, is) = subst (λ (t : ReplyClass). Goes x None (after_told p t H)) (sym is)
+      (subst (λ (o : Option Commit). Goes x None (with_commit o H)) (sym none) (does_tell [] tt (λ v. ap (λ (t : ReplyClass). view_told n t None v) is)))
 
   silent : (x : Reply) (p : Plan) → p.commit ≡ None → Failed p x ⊎ PrinterFails x → Goes x None (after p x H)
   silent x p none (inl f) = absurd (none-some _ (sym none ∙ f.is))
   silent x p none (inr f) = unprinted x p none f
 
   pub tells_plain : (x y : Reply) (T : List Entry) → IsQuiet y → AreTold T → Gets (told y T) x → Goes x None (after (told y T) x H)
-  tells_plain x y T quiet are (inl h) = by_answer x y (told y T) None h quiet (does_tell T are (λ v. plain_still n (told_by y) v quiet))
+  tells_plain x y T quiet are (inl h) = by_answer x y (told y T) None h quiet (does_tell T are (λ v. plain_still n (class_of y) v quiet))
   tells_plain x y T quiet are (inr (inl o)) = absurd (no_boot y quiet m (n.count (seen (counted H))) o.0)
   tells_plain x y T quiet are (inr (inr f)) = silent x (told y T) refl (failed (told y T) x (no_boot y quiet) f)
 
-  torn_still : (t : Told) (i : Node) (c : Commit) (s : S) (v : View S) → (t ≡ LostPower i) ⊎ (t ≡ Faulted i) → view_told n t (Some (c, s)) v ≡ torn s v
-  torn_still t i c s v (inl is) = ap (λ (z : Told). view_told n z (Some (c, s)) v) is
-  torn_still t i c s v (inr is) = ap (λ (z : Told). view_told n z (Some (c, s)) v) is
+  torn_still : (t : ReplyClass) (i : Node) (c : Commit) (s : S) (v : View S) → (t ≡ LostPower i) ⊎ (t ≡ Faulted i) → view_told n t (Some (c, s)) v ≡ torn s v
+  torn_still t i c s v (inl is) = ap (λ (z : ReplyClass). view_told n z (Some (c, s)) v) is
+  torn_still t i c s v (inr is) = ap (λ (z : ReplyClass). view_told n z (Some (c, s)) v) is
 
-  torn_after : (t : Told) (i : Node) (y : Reply) (c : Commit) (T : List Entry) → i ≡ m → (t ≡ LostPower i) ⊎ (t ≡ Faulted i) → after_told (made y c T) t H ≡ entry.Torn m c ∷ H
-  torn_after t i y c T at (inl is) = ap (λ (z : Told). after_told (made y c T) z H) is ∙ ap (λ (z : Node). entry.Torn z c ∷ H) at
-  torn_after t i y c T at (inr is) = ap (λ (z : Told). after_told (made y c T) z H) is ∙ ap (λ (z : Node). entry.Torn z c ∷ H) at
+  torn_after : (t : ReplyClass) (i : Node) (y : Reply) (c : Commit) (T : List Entry) → i ≡ m → (t ≡ LostPower i) ⊎ (t ≡ Faulted i) → after_told (made y c T) t H ≡ entry.Torn m c ∷ H
+  torn_after t i y c T at (inl is) = ap (λ (z : ReplyClass). after_told (made y c T) z H) is ∙ ap (λ (z : Node). entry.Torn z c ∷ H) at
+  torn_after t i y c T at (inr is) = ap (λ (z : ReplyClass). after_told (made y c T) z H) is ∙ ap (λ (z : Node). entry.Torn z c ∷ H) at
 
-  makes : (x y : Reply) (c : Commit) (s : S) (T : List Entry) → told_by y ≡ Did → AreTold T → is_on m H ≡ true → node_of c ≡ m → seen (c ∷ counted H) ≡ s
+  makes : (x y : Reply) (c : Commit) (s : S) (T : List Entry) → class_of y ≡ Did → AreTold T → is_on m H ≡ true → node_of c ≡ m → seen (c ∷ counted H) ≡ s
       → Gets (made y c T) x → Goes x (Some (c, s)) (after (made y c T) x H)
   makes x y c s T did are on own is (inl h) =
-      by_answer x y (made y c T) (Some (c, s)) h (subst IsPlain (sym did) tt) (does T c s are (λ v. ap (λ (t : Told). view_told n t (Some (c, s)) v) did) on own is)
+      by_answer x y (made y c T) (Some (c, s)) h (subst IsPlain (sym did) tt) (does T c s are (λ v. ap (λ (t : ReplyClass). view_told n t (Some (c, s)) v) did) on own is)
   makes x y c s T did are on own is (inr (inl o)) = absurd (no_boot y (subst IsPlain (sym did) tt) m (n.count (seen (counted H))) o.0)
   makes x y c s T did are on own is (inr (inr f)) = by (failed (made y c T) x (no_boot y (subst IsPlain (sym did) tt)) f)
     where
       by : Failed (made y c T) x ⊎ PrinterFails x → Goes x (Some (c, s)) (after (made y c T) x H)
       by (inl g) =
           let at : g.n ≡ m = sym g.own ∙ ap node_of (sym (same_Some _ _ g.is)) ∙ own in
-          subst (λ (new : Ledger). Goes x (Some (c, s)) new) (sym (torn_after (told_by x) g.n y c T at g.how)) (tears c s (λ v. torn_still (told_by x) g.n c s v g.how) own is)
-      by (inr g) = subst (λ (t : Told). Goes x (Some (c, s)) (after_told (made y c T) t H)) (sym g.1) (does [] c s tt (λ v. ap (λ (t : Told). view_told n t (Some (c, s)) v) g.1) on own is)
+          subst (λ (new : Ledger). Goes x (Some (c, s)) new) (sym (torn_after (class_of x) g.n y c T at g.how)) (tears c s (λ v. torn_still (class_of x) g.n c s v g.how) own is)
+      by (inr g) = subst (λ (t : ReplyClass). Goes x (Some (c, s)) (after_told (made y c T) t H)) (sym g.1) (does [] c s tt (λ v. ap (λ (t : ReplyClass). view_told n t (Some (c, s)) v) g.1) on own is)
 
   -- == a call, by its act ==
 
@@ -218,9 +218,9 @@ module _ {S X : Type 0} (n : Counting S X) (m : Node) (seen : List Commit → S)
   boot_may : (k : ℕ) (x : Reply) → x ≡ r.Up m k → Goes x None (after boot_plan x H)
   boot_may k x h = subst (λ z. Goes z None (after boot_plan z H)) (sym h) (boots k)
 
-  boot_fails : (x : Reply) (t : Told) → told_by x ≡ t → FailsTold boot_plan t → Goes x None (after_told boot_plan t H)
-  boot_fails x (LostPower i) is h = does_tell [] tt (λ v. ap (λ (t : Told). view_told n t None v) is)
-  boot_fails x (Faulted i) is h = does_tell [] tt (λ v. ap (λ (t : Told). view_told n t None v) is)
+  boot_fails : (x : Reply) (t : ReplyClass) → class_of x ≡ t → FailsTold boot_plan t → Goes x None (after_told boot_plan t H)
+  boot_fails x (LostPower i) is h = does_tell [] tt (λ v. ap (λ (t : ReplyClass). view_told n t None v) is)
+  boot_fails x (Faulted i) is h = does_tell [] tt (λ v. ap (λ (t : ReplyClass). view_told n t None v) is)
   boot_fails x (PrinterFailed j) is h = cc
   boot_fails x _ is h = absurd h
 
@@ -228,7 +228,7 @@ module _ {S X : Type 0} (n : Counting S X) (m : Node) (seen : List Commit → S)
   turns_on true x may = tells_plain x (r.OnAlready m) [] tt tt may
   turns_on false x (inl h) = boot_may (n.count (seen (counted H))) x h
   turns_on false x (inr (inl o)) = boot_may (n.count (seen (counted H)) + 1) x o.2
-  turns_on false x (inr (inr f)) = boot_fails x (told_by x) refl f
+  turns_on false x (inr (inr f)) = boot_fails x (class_of x) refl f
 
   pub turns_off : (on : Bool) (x : Reply) → Gets (cond on stop_plan (refuse (r.OffNode m))) x → Goes x None (after (cond on stop_plan (refuse (r.OffNode m))) x H)
   turns_off true x (inl h) = subst (λ z. Goes z None (after stop_plan z H)) (sym h) stops

@@ -32,9 +32,9 @@ use Rattle.verifier.specs.Records.{seen_after, IsRecorded}
 use Rattle.verifier.specs.Seen.{Seen, cell_of, counting, IsKnown}
 use Rattle.bench_abstraction.specs.declared.calls.VerifierCall.{VerifierCall}
 use Rattle.bench_abstraction.specs.declared.calls.VerifierCall.TheVariants as call
-use Rattle.bench_abstraction.specs.declared.taken.Taken.TheVariants as take
-use Rattle.bench_abstraction.specs.declared.taken.Work.TheVariants as work
-use Rattle.bench_abstraction.specs.Taken.{taken}
+use Rattle.bench_abstraction.specs.declared.routing.Routed.TheVariants as route
+use Rattle.bench_abstraction.specs.declared.routing.OfDay.TheVariants as of_day
+use Rattle.bench_abstraction.specs.Routing.{routed}
 use Rattle.bench_abstraction.specs.Tariff.{Quote}
 use Rattle.bench_abstraction.specs.Verifier.{verifier_act, verifier_kind, AreBytes}
 use Rattle.bench_abstraction.specs.Messages.{sent_in}
@@ -127,7 +127,7 @@ module _ (H : Ledger) (recorded : IsRecorded (counted H)) (known : IsKnown (seen
   ByView today asked = node_plan counting Verifier (verifier_kind.plan tt today (verifier_view H)) (verifier_view H) asked
 
   pub planned_call : (τ : Tariff) (today : ℤ) (quote : Quote) → day_in H ≡ Some today → commits_in (seen_after C) ≡ count_of Verifier C → (e : Event) (asked : Asked VerifierCall)
-      → taken (sent_in H) quote e ≡ Some (take.Work (work.Verifier asked)) → IsWholeEvent e → AreBytes asked → plan τ todays_rules H e [] ≡ ByView today asked
+      → routed (sent_in H) quote e ≡ Some (route.OfDay (of_day.Verifier asked)) → IsWholeEvent e → AreBytes asked → plan τ todays_rules H e [] ≡ ByView today asked
   unfolding plan
   planned_call τ today quote day counts = each_of_verifier (sent_in H) quote (λ e asked. IsWholeEvent e → AreBytes asked → plan τ todays_rules H e [] ≡ ByView today asked) (record {
     on = λ whole bytes. rw (day, sym counts) refl;
@@ -144,7 +144,7 @@ abbrev IsWholeAsked : Asked VerifierCall → Type 0
 IsWholeAsked = OfCall IsWholeCall
 
 -- they are those of its event, and of what is scanned
-pub whole_call : (H : Ledger) (quote : Quote) (e : Event) (c : VerifierCall) → taken (sent_in H) quote e ≡ Some (take.Work (work.Verifier (Call c))) → IsWholeEvent e → AreBytes (Call c) → IsWholeCall c
+pub whole_call : (H : Ledger) (quote : Quote) (e : Event) (c : VerifierCall) → routed (sent_in H) quote e ≡ Some (route.OfDay (of_day.Verifier (Call c))) → IsWholeEvent e → AreBytes (Call c) → IsWholeCall c
 whole_call H quote e c of = each_of_verifier (sent_in H) quote (λ i asked. IsWholeEvent i → AreBytes asked → IsWholeAsked asked) (record {
   on = λ whole bytes. tt;
   off = λ whole bytes. tt;

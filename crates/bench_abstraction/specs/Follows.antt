@@ -18,15 +18,15 @@ use Rattle.node_acts.specs.Kinds.{Kind, view_in, node_plan, node_commit}
 use Rattle.ledger_moves.specs.Tariffs.{Tariff}
 use Rattle.ledger_moves.specs.Moves.{Moves, plan, entries}
 use Rattle.ledger_moves.specs.Histories.{History, Unforged}
-use Rattle.bench_abstraction.specs.declared.taken.Taken.TheVariants as take
-use Rattle.bench_abstraction.specs.declared.taken.Work.{Work}
-use Rattle.bench_abstraction.specs.declared.taken.Work.TheVariants as work
+use Rattle.bench_abstraction.specs.declared.routing.Routed.TheVariants as route
+use Rattle.bench_abstraction.specs.declared.routing.OfDay.{OfDay}
+use Rattle.bench_abstraction.specs.declared.routing.OfDay.TheVariants as of_day
 use Rattle.bench_abstraction.specs.Centre.{AreBytes}
 use Rattle.bench_abstraction.specs.Verifier as verifier
 use Rattle.bench_abstraction.specs.Tariff.{quote_in}
 use Rattle.bench_abstraction.specs.Kinds.{Kinds}
 use Rattle.bench_abstraction.specs.Messages.{sent_in, IsFew}
-use Rattle.bench_abstraction.specs.Taken.{taken}
+use Rattle.bench_abstraction.specs.Routing.{routed}
 
 -- nothing that the bench sees beside its nodes and the messages was changed
 pub record Rests (old new : Ledger) : Type 0 where
@@ -72,41 +72,41 @@ module _ {N S X C : Type 0} (n : Counting S X) (kind : Kind N S C) (m : Node) (d
 
   -- it follows for each event of the node, on a day, at each history in which its record is one that storage can show, and is one
   -- after the commit too
-  abbrev pub FollowsAlways : {D E F G : Type 0} → Kinds D E F G → (Asked C → Work) → (Asked C → Type 0) → (S → Type 0) → Type 0
+  abbrev pub FollowsAlways : {D E F G : Type 0} → Kinds D E F G → (Asked C → OfDay) → (Asked C → Type 0) → (S → Type 0) → Type 0
   FollowsAlways kinds work_of IsWhole Fits = (τ : Tariff) (H : Ledger) (e : Event) (today : ℤ) (asked : Asked C) → History τ editions H → Unforged e H → day_in H ≡ Some today
-      → IsWholeEvent e → taken (sent_in H) (quote_in τ H) e ≡ Some (take.Work (work_of asked)) → IsWhole asked → Fits (view_by H).state → IfSome (commit_by today asked H) (λ x. Fits x.1)
+      → IsWholeEvent e → routed (sent_in H) (quote_in τ H) e ≡ Some (route.OfDay (work_of asked)) → IsWhole asked → Fits (view_by H).state → IfSome (commit_by today asked H) (λ x. Fits x.1)
       → Follows kinds τ H e today asked
 
 -- an event of a device, of the centre, of the host or of the verifier does what the node alone would do, and changes that node alone
 abbrev pub DevicesFollow : {D C H V X : Type 0} → Counting D X → Kinds D C H V → (D → Type 0) → Type 0
-DevicesFollow n kinds IsSound = (d : ℕ) → FollowsAlways n kinds.devices (Device d) d kinds (work.Device d) (λ asked. Unit {0}) IsSound
+DevicesFollow n kinds IsSound = (d : ℕ) → FollowsAlways n kinds.devices (Device d) d kinds (of_day.Device d) (λ asked. Unit {0}) IsSound
 
 abbrev pub CentreFollows : {D C H V X : Type 0} → Counting C X → Kinds D C H V → (C → Type 0) → Type 0
-CentreFollows n kinds IsSound = FollowsAlways n kinds.centre Centre tt kinds work.Centre AreBytes IsSound
+CentreFollows n kinds IsSound = FollowsAlways n kinds.centre Centre tt kinds of_day.Centre AreBytes IsSound
 
 abbrev pub HostFollows : {D C H V X : Type 0} → Counting H X → Kinds D C H V → (H → Type 0) → Type 0
-HostFollows n kinds IsSound = FollowsAlways n kinds.host Host tt kinds work.Host (λ asked. Unit {0}) IsSound
+HostFollows n kinds IsSound = FollowsAlways n kinds.host Host tt kinds of_day.Host (λ asked. Unit {0}) IsSound
 
 abbrev pub VerifierFollows : {D C H V X : Type 0} → Counting V X → Kinds D C H V → (V → Type 0) → Type 0
-VerifierFollows n kinds IsSound = FollowsAlways n kinds.verifier Verifier tt kinds work.Verifier verifier.AreBytes IsSound
+VerifierFollows n kinds IsSound = FollowsAlways n kinds.verifier Verifier tt kinds of_day.Verifier verifier.AreBytes IsSound
 
 -- == events of no node ==
 
 -- what an event is answered that changes no node, by what is seen of the nodes
-abbrev pub quiet_reply : {D C H V : Type 0} → Kinds D C H V → (ℕ → View D) → View C → Work → Option Reply
-quiet_reply kinds v w work.Rates = None
-quiet_reply kinds v w (work.NoMessage k) = Some (r.NoMessage k)
-quiet_reply kinds v w (work.Reconcile d) = Some (kinds.compare d (v d) w)
-quiet_reply kinds v w (work.Device d asked) = None
-quiet_reply kinds v w (work.Centre asked) = None
-quiet_reply kinds v w (work.Host asked) = None
-quiet_reply kinds v w (work.Verifier asked) = None
+abbrev pub quiet_reply : {D C H V : Type 0} → Kinds D C H V → (ℕ → View D) → View C → OfDay → Option Reply
+quiet_reply kinds v w of_day.Rates = None
+quiet_reply kinds v w (of_day.NoMessage k) = Some (r.NoMessage k)
+quiet_reply kinds v w (of_day.Reconcile d) = Some (kinds.compare d (v d) w)
+quiet_reply kinds v w (of_day.Device d asked) = None
+quiet_reply kinds v w (of_day.Centre asked) = None
+quiet_reply kinds v w (of_day.Host asked) = None
+quiet_reply kinds v w (of_day.Verifier asked) = None
 
 -- by the ledger
-abbrev pub quiet_by : {D C H V : Type 0} → Kinds D C H V → Ledger → Work → Option Reply
+abbrev pub quiet_by : {D C H V : Type 0} → Kinds D C H V → Ledger → OfDay → Option Reply
 quiet_by kinds H x = quiet_reply kinds (λ d. view_in (Device d) (kinds.devices.seen d) H) (view_in Centre (kinds.centre.seen tt) H) x
 
 -- on a day, its plan is that reply alone, where the centre's record is one that storage can show
 abbrev pub OthersAreQuiet : {D C H V : Type 0} → Kinds D C H V → (C → Type 0) → Type 0
-OthersAreQuiet kinds IsSound = (τ : Tariff) (H : Ledger) (e : Event) (today : ℤ) (x : Work) (reply : Reply) → History τ editions H → day_in H ≡ Some today
-    → taken (sent_in H) (quote_in τ H) e ≡ Some (take.Work x) → IsSound (view_in Centre (kinds.centre.seen tt) H).state → quiet_by kinds H x ≡ Some reply → plan τ todays_rules H e [] ≡ refuse reply
+OthersAreQuiet kinds IsSound = (τ : Tariff) (H : Ledger) (e : Event) (today : ℤ) (x : OfDay) (reply : Reply) → History τ editions H → day_in H ≡ Some today
+    → routed (sent_in H) (quote_in τ H) e ≡ Some (route.OfDay x) → IsSound (view_in Centre (kinds.centre.seen tt) H).state → quiet_by kinds H x ≡ Some reply → plan τ todays_rules H e [] ≡ refuse reply

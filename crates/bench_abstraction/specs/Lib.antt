@@ -4,7 +4,7 @@ pub mod Devices
 pub mod Follows
 pub mod Host
 pub mod Kinds
-pub mod Taken
+pub mod Routing
 pub mod Tariff
 pub mod Verifier
 -- Promised: those rest on these.

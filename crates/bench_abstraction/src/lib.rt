@@ -3,11 +3,11 @@
 
 mod calls;
 pub mod laws;
-mod taken;
+mod routing;
 
 pub use calls::{
     AckCall, AskCall, BalanceCall, CentreCall, CloseCall, DebitCall, DepositCall, DeviceCall,
     FlagCall, Handed, HostCall, MakeCall, OpenCall, OrderCall, PrintCall, RegisterCall, ResendCall,
     ScanCall, SendCall, TakeReleaseCall, TakeReplyCall, TakeRequestCall, TrustCall, VerifierCall,
 };
-pub use taken::{Taken, Work, take};
+pub use routing::{OfDay, Routed, route};

@@ -11,73 +11,73 @@ use Rattle.bench_base.specs.Nodes.{same_node}
 use Rattle.bench_base.specs.Events.{node_for, needs_day, needs_on, may_commit, IsAt}
 
 -- what a reply reports
-pub data Told : Type 0 where
+pub data ReplyClass : Type 0 where
   -- what was asked for was done
-  Did : Told
+  Did : ReplyClass
   -- it was refused, and nothing was changed
-  Refused : Told
+  Refused : ReplyClass
   -- the fuse of the node's storage was armed
-  Armed : Node → Told
+  Armed : Node → ReplyClass
   -- the node's storage was read, and the node came on with so many commits
-  CameOn : Node → ℕ → Told
-  WentOff : Node → Told
+  CameOn : Node → ℕ → ReplyClass
+  WentOff : Node → ReplyClass
   -- power was cut, or the storage failed; the node is off
-  LostPower : Node → Told
-  Faulted : Node → Told
+  LostPower : Node → ReplyClass
+  Faulted : Node → ReplyClass
   -- the node's storage was read, and is not that of the node, which is off
-  WasDamaged : Node → Told
+  WasDamaged : Node → ReplyClass
   -- the printer failed after the commit of this job
-  PrinterFailed : ℕ → Told
+  PrinterFailed : ℕ → ReplyClass
   -- the rates could not be read
-  RatesFailed : Told
+  RatesFailed : ReplyClass
 
 -- what each reply reports
-abbrev pub told_by : Reply → Told
-told_by (r.Day t) = Did
-told_by (r.Rates classes zones) = Did
-told_by r.RatesFault = RatesFailed
-told_by r.RatesLength = Refused
-told_by r.RatesToml = Refused
-told_by r.RatesForm = Refused
-told_by (r.Made d) = Did
-told_by (r.Up n k) = CameOn n k
-told_by (r.Down n) = WentOff n
-told_by (r.CutSet n) = Armed n
-told_by (r.Marked d piece again mark) = Did
-told_by (r.SentRequest d number message) = Did
-told_by (r.SentDone d number message) = Did
-told_by (r.Status d shown) = Did
-told_by (r.Registered d) = Did
-told_by (r.Opened w) = Did
-told_by (r.Deposited w receipt again total) = Did
-told_by (r.Flagged w suspended) = Did
-told_by (r.Balance w left) = Did
-told_by (r.Ruled d number verdict again message) = Did
-told_by (r.Settled d number again) = Did
-told_by (r.Applied d number verdict) = Did
-told_by (r.Released d piece again message) = Did
-told_by (r.Held job) = Did
-told_by (r.Ordered job postage) = Did
-told_by (r.SentDebit job message) = Did
-told_by (r.Printed job) = Did
-told_by (r.PrinterFault job) = PrinterFailed job
-told_by (r.Closed job) = Did
-told_by (r.Trusted d) = Did
-told_by (r.Accepted d piece scan again) = Did
-told_by (r.Reconciled d shown booked under_way) = Did
-told_by r.End = Did
-told_by r.NoDay = Refused
-told_by (r.NoMessage k) = Refused
-told_by (r.OffNode n) = Refused
-told_by (r.OnAlready n) = Refused
-told_by (r.Power n) = LostPower n
-told_by (r.Fault n) = Faulted n
-told_by (r.Worn n) = Refused
-told_by (r.Damaged n) = WasDamaged n
-told_by (r.DevRefused d why) = Refused
-told_by (r.CentreRefused why) = Refused
-told_by (r.HostRefused why) = Refused
-told_by (r.ScanRefused why) = Refused
+abbrev pub class_of : Reply → ReplyClass
+class_of (r.Day t) = Did
+class_of (r.Rates classes zones) = Did
+class_of r.RatesFault = RatesFailed
+class_of r.RatesLength = Refused
+class_of r.RatesToml = Refused
+class_of r.RatesForm = Refused
+class_of (r.Made d) = Did
+class_of (r.Up n k) = CameOn n k
+class_of (r.Down n) = WentOff n
+class_of (r.CutSet n) = Armed n
+class_of (r.Marked d piece again mark) = Did
+class_of (r.SentRequest d number message) = Did
+class_of (r.SentDone d number message) = Did
+class_of (r.Status d shown) = Did
+class_of (r.Registered d) = Did
+class_of (r.Opened w) = Did
+class_of (r.Deposited w receipt again total) = Did
+class_of (r.Flagged w suspended) = Did
+class_of (r.Balance w left) = Did
+class_of (r.Ruled d number verdict again message) = Did
+class_of (r.Settled d number again) = Did
+class_of (r.Applied d number verdict) = Did
+class_of (r.Released d piece again message) = Did
+class_of (r.Held job) = Did
+class_of (r.Ordered job postage) = Did
+class_of (r.SentDebit job message) = Did
+class_of (r.Printed job) = Did
+class_of (r.PrinterFault job) = PrinterFailed job
+class_of (r.Closed job) = Did
+class_of (r.Trusted d) = Did
+class_of (r.Accepted d piece scan again) = Did
+class_of (r.Reconciled d shown booked under_way) = Did
+class_of r.End = Did
+class_of r.NoDay = Refused
+class_of (r.NoMessage k) = Refused
+class_of (r.OffNode n) = Refused
+class_of (r.OnAlready n) = Refused
+class_of (r.Power n) = LostPower n
+class_of (r.Fault n) = Faulted n
+class_of (r.Worn n) = Refused
+class_of (r.Damaged n) = WasDamaged n
+class_of (r.DevRefused d why) = Refused
+class_of (r.CentreRefused why) = Refused
+class_of (r.HostRefused why) = Refused
+class_of (r.ScanRefused why) = Refused
 
 -- == what a reply tells of ==
 
@@ -100,7 +100,7 @@ pub record Telling : Type 0 where
 abbrev pub plainly : Telling
 plainly = record { refused = false; power = None; fault = None; armed = None; read = false; on = None; unprinted = false; unread = false }
 
-abbrev pub telling : Told → Telling
+abbrev pub telling : ReplyClass → Telling
 telling Did = plainly
 telling Refused = record plainly { refused = true }
 telling (Armed n) = record plainly { armed = Some n }
@@ -120,54 +120,54 @@ abbrev pub set_on : Option Bool → Bool → Bool
 set_on None was = was
 set_on (Some is) was = is
 
-abbrev pub refuses : Told → Bool
+abbrev pub refuses : ReplyClass → Bool
 refuses t = (telling t).refused
 
 abbrev pub is_refusal : Reply → Bool
-is_refusal reply = refuses (told_by reply)
+is_refusal reply = refuses (class_of reply)
 
-abbrev pub loses_power : Node → Told → Bool
+abbrev pub loses_power : Node → ReplyClass → Bool
 loses_power n t = is_named n (telling t).power
 
-abbrev pub faults : Node → Told → Bool
+abbrev pub faults : Node → ReplyClass → Bool
 faults n t = is_named n (telling t).fault
 
-abbrev pub arms : Node → Told → Bool
+abbrev pub arms : Node → ReplyClass → Bool
 arms n t = is_named n (telling t).armed
 
 abbrev pub tells_power : Node → Reply → Bool
-tells_power n reply = loses_power n (told_by reply)
+tells_power n reply = loses_power n (class_of reply)
 
 abbrev pub tells_fault : Node → Reply → Bool
-tells_fault n reply = faults n (told_by reply)
+tells_fault n reply = faults n (class_of reply)
 
 abbrev pub tells_cut : Node → Reply → Bool
-tells_cut n reply = arms n (told_by reply)
+tells_cut n reply = arms n (class_of reply)
 
 -- power was cut at some node, or its storage failed
-abbrev pub is_failure : Told → Bool
+abbrev pub is_failure : ReplyClass → Bool
 is_failure t = is_some (telling t).power || is_some (telling t).fault
 
 abbrev pub tells_failure : Reply → Bool
-tells_failure reply = is_failure (told_by reply)
+tells_failure reply = is_failure (class_of reply)
 
 abbrev pub has_read : Reply → Bool
-has_read reply = (telling (told_by reply)).read
+has_read reply = (telling (class_of reply)).read
 
 abbrev pub tells_printer : Reply → Bool
-tells_printer reply = (telling (told_by reply)).unprinted
+tells_printer reply = (telling (class_of reply)).unprinted
 
-abbrev pub fails_to_read : Told → Bool
+abbrev pub fails_to_read : ReplyClass → Bool
 fails_to_read t = (telling t).unread
 
 abbrev pub tells_rates : Reply → Bool
-tells_rates reply = fails_to_read (told_by reply)
+tells_rates reply = fails_to_read (class_of reply)
 
-abbrev pub leaves_on : Told → Bool → Bool
+abbrev pub leaves_on : ReplyClass → Bool → Bool
 leaves_on t was = set_on (telling t).on was
 
 abbrev pub on_after : Reply → Bool → Bool
-on_after reply was = leaves_on (told_by reply) was
+on_after reply was = leaves_on (class_of reply) was
 
 -- == which events may get it, whatever the storages tell ==
 

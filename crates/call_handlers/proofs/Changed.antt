@@ -8,7 +8,7 @@ use Rattle.centre_ledger.specs.Books.{Books, AreSound, put_row}
 use Rattle.host_jobs.specs.Acts.{HostAct}
 use Rattle.host_jobs.specs.ActLaws as host
 use Rattle.host_jobs.specs.Rows.{Jobs}
-use Rattle.host_jobs.specs.Soundness.{IsKept, IsNext}
+use Rattle.host_jobs.specs.Soundness.{IsDerived, IsNext}
 use Rattle.host_jobs.specs.declared.kept.Kept.{Kept}
 use Rattle.verifier.specs.Acts.{ScanAct}
 use Rattle.verifier.specs.ActLaws as verifier
@@ -35,5 +35,5 @@ pub put_fit : {A : Type 0} (s : Seen) (act : ScanAct A) {result : ScanAct A} →
 put_fit {A} s act is leaves = subst (λ (a : ScanAct A). ChangesBy (λ x. verifier.IsFit s x) a) (sym is) (fit_by s act leaves)
 
 -- what is kept of these jobs is kept of those that are read
-pub kept_of : {rows jobs : Jobs} {kept : Kept} → rows ≡ jobs → IsKept jobs kept → IsKept rows kept
-kept_of {kept = kept} same is = subst (λ (w : Jobs). IsKept w kept) (sym same) is
+pub kept_of : {rows jobs : Jobs} {kept : Kept} → rows ≡ jobs → IsDerived jobs kept → IsDerived rows kept
+kept_of {kept = kept} same is = subst (λ (w : Jobs). IsDerived w kept) (sym same) is

@@ -9,12 +9,12 @@ ghost use Rattle.centre_ledger.specs.Books.{AreSound, put_row};
 ghost use Rattle.centre_ledger.specs.Plans as told;
 ghost use Rattle.bench_abstraction.specs.Centre as views;
 
-use bench_base::events::Reply;
-use bench_base::refusals::CentreRefusal;
-use bench_base::words::Node as NodeNo;
 use bench_abstraction::{
     BalanceCall, CentreCall, DepositCall, FlagCall, OpenCall, RegisterCall, TakeRequestCall,
 };
+use bench_base::events::Reply;
+use bench_base::refusals::CentreRefusal;
+use bench_base::words::Node as NodeNo;
 use centre_ledger::{
     BooksOf, CentreAct, CentreAnswer, Deposit, Row, balance_act, deposit_act, flag_act, open_act,
     register_act, take_act,

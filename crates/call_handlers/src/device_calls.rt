@@ -12,12 +12,12 @@ ghost use Rattle.psd_state.specs.Acts as acts;
 ghost use Rattle.bench_abstraction.specs.Devices as views;
 ghost use Rattle.call_handlers.specs.Numbers.{under_number};
 
+use bench_abstraction::{AckCall, AskCall, DebitCall, MakeCall, ResendCall, TakeReplyCall};
 use bench_base::bytes::Note;
 use bench_base::events::{DevView, Reply};
 use bench_base::numbers::{DayNo, DevNo};
 use bench_base::refusals::DevRefusal;
 use bench_base::words::Node as NodeNo;
-use bench_abstraction::{AckCall, AskCall, DebitCall, MakeCall, ResendCall, TakeReplyCall};
 use node_acts::{Act, Call, Callee, GivenOut, Released, Said};
 use psd_state::acts::{
     DeviceAct, Franked, Taken, ack_act, ask_act, debit_act, make_act, resend_act, status_act,

@@ -7,11 +7,11 @@ ghost use Rattle.host_jobs.specs.Acts as acts;
 ghost use Rattle.host_jobs.specs.Soundness.{IsNext};
 ghost use Rattle.host_jobs.specs.Plans as told;
 
+use bench_abstraction::{CloseCall, OrderCall, PrintCall, SendCall, TakeReleaseCall};
 use bench_base::bytes::Note;
 use bench_base::events::Reply;
 use bench_base::refusals::HostRefusal;
 use bench_base::words::Node as NodeNo;
-use bench_abstraction::{CloseCall, OrderCall, PrintCall, SendCall, TakeReleaseCall};
 use host_jobs::{
     HostAct, JobRow, JobsOf, Ordered, begin_print_act, close_act, debit_message_act, order_act,
     take_act,

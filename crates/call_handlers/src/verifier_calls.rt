@@ -8,11 +8,11 @@ ghost use Rattle.verifier.specs.ActLaws.{IsFit};
 ghost use Rattle.verifier.specs.Plans as told;
 ghost use Rattle.bench_abstraction.specs.Verifier as views;
 
+use bench_abstraction::{ScanCall, TrustCall, VerifierCall};
 use bench_base::events::Reply;
 use bench_base::numbers::DayNo;
 use bench_base::refusals::ScanRefusal;
 use bench_base::words::Node as NodeNo;
-use bench_abstraction::{ScanCall, TrustCall, VerifierCall};
 use node_acts::{Call, Callee, Holds, Said};
 use verifier::{Accepted, Change, RowsOf, ScanAct};
 

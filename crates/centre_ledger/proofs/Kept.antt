@@ -14,7 +14,7 @@ use Rattle.centre_ledger.specs.declared.rows.Row.TheVariants.{Device, Customer}
 use Rattle.ledger_terms.specs.Centres.{is_some_at}
 use Rattle.centre_ledger.specs.Rows.{enrolled_in, buys_in, returns_in}
 use Rattle.centre_ledger.specs.Soundness.{IsSoundDevice, IsSoundCustomer}
-use Rattle.centre_ledger.specs.Books.{Books, no_rows, place_of, device_at, customer_at, put_row, left_of, balances_by, kept_at, deposits_in, spent_in, IsCovered, IsOwned, IsDeviceOf, IsCustomerAt, ArePlaced, AreSound, IsKept}
+use Rattle.centre_ledger.specs.Books.{Books, no_rows, place_of, device_at, customer_at, put_row, left_of, balances_by, kept_at, deposits_in, spent_in, IsCovered, IsOwned, IsDeviceOf, IsCustomerAt, ArePlaced, AreSound, IsDerived}
 use Rattle.centre_ledger.proofs.Places.{place_from_1, place_next, put_same, put_other, in_place, from_places}
 
 -- == what all rows say ==
@@ -142,7 +142,7 @@ pub record Putting (b : Books) (r : DeviceRow) (balances : List ℕ) : Type 0 wh
   pub after : AreSound (put_row b (Device r))
   pub device : IsDevice r.device
 
-pub putting : (b now : Books) (r : DeviceRow) (balances : List ℕ) (d : ℕ) → IsKept b balances → b ≡ now → AreSound (put_row now (Device r)) → d ≡ r.device → IsDevice d → Putting b r balances
+pub putting : (b now : Books) (r : DeviceRow) (balances : List ℕ) (d : ℕ) → IsDerived b balances → b ≡ now → AreSound (put_row now (Device r)) → d ≡ r.device → IsDevice d → Putting b r balances
 putting b now r balances d kept is after same device = record {
   sound = kept.sound;
   kept = kept.kept;
@@ -225,7 +225,7 @@ covers b r balances given p back w in_w = go (customer_at b w) refl
         omega (arith, back.each w in_w, is.sum, then.sum, sums.bought, sums.returned, sums.bought_then, sums.returned_then, sums.before_most, sums.after_most)
 
 pub device_kept : (b : Books) (r : DeviceRow) (balances given after : List ℕ) → Putting b r balances → GivenBack b r balances given → length after ≡ 64
-    → ((w : ℕ) → IsCustomer w → kept_at after w + spent_in w (Some r) ≡ kept_at given w) → IsKept (put_row b (Device r)) after
+    → ((w : ℕ) → IsCustomer w → kept_at after w + spent_in w (Some r) ≡ kept_at given w) → IsDerived (put_row b (Device r)) after
 device_kept b r balances given after p back size taken = record {
   sound = p.after;
   kept = kept_by (put_row b (Device r)).devices b.customers after size p.sound.placed.customer_count each;
@@ -257,7 +257,7 @@ pub record PuttingCustomer (b : Books) (r : CustomerRow) (balances : List ℕ) :
   pub after : AreSound (put_row b (Customer r))
   pub customer : IsCustomer r.customer
 
-pub putting_customer : (b now : Books) (r : CustomerRow) (balances : List ℕ) → IsKept b balances → b ≡ now → AreSound (put_row now (Customer r)) → IsCustomer r.customer → PuttingCustomer b r balances
+pub putting_customer : (b now : Books) (r : CustomerRow) (balances : List ℕ) → IsDerived b balances → b ≡ now → AreSound (put_row now (Customer r)) → IsCustomer r.customer → PuttingCustomer b r balances
 putting_customer b now r balances kept is after customer = record {
   sound = kept.sound;
   kept = kept.kept;
@@ -319,7 +319,7 @@ kept_other balances after v w x in_v in_w other h = ap (λ bs. kept_at bs w) h �
 
 pub customer_kept : (b : Books) (r : CustomerRow) (balances after : List ℕ) → PuttingCustomer b r balances → length after ≡ 64
     → kept_at after r.customer + deposits_in (customer_at b r.customer) ≡ kept_at balances r.customer + r.deposits
-    → ((w : ℕ) → IsCustomer w → (w ≡ r.customer → ⊥) → kept_at after w ≡ kept_at balances w) → IsKept (put_row b (Customer r)) after
+    → ((w : ℕ) → IsCustomer w → (w ≡ r.customer → ⊥) → kept_at after w ≡ kept_at balances w) → IsDerived (put_row b (Customer r)) after
 customer_kept b r balances after p size own others = record {
   sound = p.after;
   kept = kept_by b.devices (put_row b (Customer r)).customers after size p.after.placed.customer_count each;
@@ -343,7 +343,7 @@ customer_kept b r balances after p size own others = record {
 pub nothing_at : {R : Type 0} (n k : ℕ) → place_of {R = R} (replicate n None) k ≡ None
 nothing_at {R} n k = in_place (λ (o : Option R). o ≡ None) (replicate n None) k refl (All-replicate (λ (o : Option R). o ≡ None) n None refl)
 
-pub none_kept : IsKept no_rows (replicate 64 0)
+pub none_kept : IsDerived no_rows (replicate 64 0)
 none_kept = record {
   sound = record {
     placed = record {

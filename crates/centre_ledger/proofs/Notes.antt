@@ -13,7 +13,7 @@ use Rattle.psd_wire.specs.declared.message.Message.TheVariants as m
 use Rattle.psd_wire.specs.Grammar.{IsWhole, IsCoded, body, spell, request_table, reply_table}
 use Rattle.psd_wire.proofs.Readings.{cut, one_body, request_room, reply_room, request_version, length_body_of, length_request, length_reply, reply_version}
 use Rattle.centre_ledger.specs.Payload.{uncoded, kept, filled, message_part, request_size, reply_size}
-use Rattle.centre_ledger.specs.Parts.{IsSpelled, IsKept, request_front, reply_front}
+use Rattle.centre_ledger.specs.Parts.{IsSpelled, IsNoted, request_front, reply_front}
 
 -- a fact of both versions
 pub by_version : (P : ℕ → Type 0) (v : ℕ) → IsVersion v → P 1 → P 2 → P v
@@ -57,7 +57,7 @@ filled_front size n xs bytes e l long =
     )
 
 -- the first bytes and the zeros behind them are what is filled
-pub kept_part : (v front : ℕ) (key bytes note : List ℕ) → front ≤ length bytes → IsKept v front key bytes note → message_part v (length bytes) note ≡ bytes
+pub kept_part : (v front : ℕ) (key bytes note : List ℕ) → front ≤ length bytes → IsNoted v front key bytes note → message_part v (length bytes) note ≡ bytes
 unfolding message_part
 kept_part v front key bytes note h k =
     let long : length (kept v note) ≡ front = ap length k.first ∙ length-take-le front bytes h in
@@ -122,14 +122,14 @@ kept_reply v r key bytes h w = by_version
 
 -- the part of a Request keeps it
 pub request_kept : (v : ℕ) (q : Request) (key bytes : List ℕ) → IsVersion v → IsWhole (m.Request q) → length bytes ≡ request_size v
-    → message_part v (request_size v) (spell (m.Request q) key) ≡ bytes → IsKept v (request_front v (get_or bytes 0 0)) key bytes (spell (m.Request q) key)
+    → message_part v (request_size v) (spell (m.Request q) key) ≡ bytes → IsNoted v (request_front v (get_or bytes 0 0)) key bytes (spell (m.Request q) key)
 unfolding message_part
 request_kept v q key bytes h w l e =
     let parts = filled_front (request_size v) (request_front v (get_or bytes 0 0)) (kept v (spell (m.Request q) key)) bytes e l (kept_request v q key bytes h w l e) in
     record { spelled = (m.Request q, refl, w, refl); first = parts.0; zeros = parts.1 }
 
 pub reply_kept : (v : ℕ) (r : ReplyMsg) (key bytes : List ℕ) → IsVersion v → IsWhole (m.Reply r) → length bytes ≡ reply_size v
-    → message_part v (reply_size v) (spell (m.Reply r) key) ≡ bytes → IsKept v (reply_front v (get_or bytes 0 0)) key bytes (spell (m.Reply r) key)
+    → message_part v (reply_size v) (spell (m.Reply r) key) ≡ bytes → IsNoted v (reply_front v (get_or bytes 0 0)) key bytes (spell (m.Reply r) key)
 unfolding message_part
 reply_kept v r key bytes h w l e =
     let parts = filled_front (reply_size v) (reply_front v (get_or bytes 0 0)) (kept v (spell (m.Reply r) key)) bytes e l (kept_reply v r key bytes h w l e) in
@@ -137,7 +137,7 @@ reply_kept v r key bytes h w l e =
 
 -- == one message is kept ==
 
-pub one_kept : (v front : ℕ) (key bytes a b : List ℕ) → IsVersion v → IsKept v front key bytes a → IsKept v front key bytes b → a ≡ b
+pub one_kept : (v front : ℕ) (key bytes a b : List ℕ) → IsVersion v → IsNoted v front key bytes a → IsNoted v front key bytes b → a ≡ b
 one_kept v front key bytes a b h k l = by_version (λ n. kept n a ≡ kept n b → a ≡ b) v h (λ e. e) bodies (k.first ∙ sym l.first)
   where
     bodies : uncoded a ≡ uncoded b → a ≡ b

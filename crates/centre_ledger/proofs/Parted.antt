@@ -17,7 +17,7 @@ use Rattle.centre_ledger.specs.declared.rows.Enrolment.TheVariants.{Registered, 
 use Rattle.centre_ledger.specs.Rows.{customer_number}
 use Rattle.centre_ledger.specs.Soundness.{IsRuling, IsSoundDevice}
 use Rattle.centre_ledger.specs.Payload.{state_byte, state_number, head_table, head, sums_table, sums, request_size, reply_size, uncoded, kept, filled, message_part, head_part, sums_part, request_part, reply_part, end_part, device_spelled, DeviceFits, IsOld}
-use Rattle.centre_ledger.specs.Parts.{state_from, enrolment_from, HeadIs, bare, bare_from, bare_at, request_place, reply_place, Parts, IsKept, IsStored, request_front, reply_front}
+use Rattle.centre_ledger.specs.Parts.{state_from, enrolment_from, HeadIs, bare, bare_from, bare_at, request_place, reply_place, Parts, IsNoted, IsStored, request_front, reply_front}
 use Rattle.centre_ledger.proofs.Notes.{by_version, uncoded_spell, first_request, length_body_reply, length_filled, request_kept, reply_kept, kept_part, one_kept}
 
 -- == a row falls into these parts ==
@@ -225,8 +225,8 @@ stored_request v r bytes h sound l e = record {
   kept = λ some. of (sound.ruling some);
 }
   where
-    of : (q : Request) × (p : ReplyMsg) × IsRuling r q p → IsKept v (request_front v (get_or bytes 0 0)) r.key bytes r.request
-    of (q, p, g) = subst (λ x. message_part v (request_size v) x ≡ bytes → IsKept v (request_front v (get_or bytes 0 0)) r.key bytes x) (sym g.request) (request_kept v q r.key bytes h g.request_whole l) e
+    of : (q : Request) × (p : ReplyMsg) × IsRuling r q p → IsNoted v (request_front v (get_or bytes 0 0)) r.key bytes r.request
+    of (q, p, g) = subst (λ x. message_part v (request_size v) x ≡ bytes → IsNoted v (request_front v (get_or bytes 0 0)) r.key bytes x) (sym g.request) (request_kept v q r.key bytes h g.request_whole l) e
 
 pub stored_reply : (v : ℕ) (r : DeviceRow) (bytes : List ℕ) → IsVersion v → IsSoundDevice r → length bytes ≡ reply_size v
     → message_part v (reply_size v) r.reply ≡ bytes → IsStored v r.ruled (reply_front v (get_or bytes 0 0)) r.key bytes r.reply
@@ -235,8 +235,8 @@ stored_reply v r bytes h sound l e = record {
   kept = λ some. of (sound.ruling some);
 }
   where
-    of : (q : Request) × (p : ReplyMsg) × IsRuling r q p → IsKept v (reply_front v (get_or bytes 0 0)) r.key bytes r.reply
-    of (q, p, g) = subst (λ x. message_part v (reply_size v) x ≡ bytes → IsKept v (reply_front v (get_or bytes 0 0)) r.key bytes x) (sym g.reply) (reply_kept v p r.key bytes h g.reply_whole l) e
+    of : (q : Request) × (p : ReplyMsg) × IsRuling r q p → IsNoted v (reply_front v (get_or bytes 0 0)) r.key bytes r.reply
+    of (q, p, g) = subst (λ x. message_part v (reply_size v) x ≡ bytes → IsNoted v (reply_front v (get_or bytes 0 0)) r.key bytes x) (sym g.reply) (reply_kept v p r.key bytes h g.reply_whole l) e
 
 -- by the fields of the row alone, and where the message was found to end
 pub bare_request : (v n : ℕ) (x r : DeviceRow) (bytes : List ℕ) → IsVersion v → n ≡ request_front v (get_or bytes 0 0) → IsSoundDevice r → bare r ≡ x → length bytes ≡ request_size v

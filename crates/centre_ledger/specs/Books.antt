@@ -98,6 +98,6 @@ pub record AreSound (b : Books) : Type 0 where
   pub joined : AreJoined b
 
 -- the rows are sound, and the balances that are kept are those by the rows
-pub record IsKept (b : Books) (balances : List ℕ) : Type 0 where
+pub record IsDerived (b : Books) (balances : List ℕ) : Type 0 where
   pub sound : AreSound b
   pub kept : balances ≡ balances_by b.devices b.customers

@@ -105,7 +105,7 @@ abbrev pub IsSpelled : List ℕ → List ℕ → Type 0
 IsSpelled key note = (x : Message) × IsCoded x × IsWhole x × (spell x key ≡ note)
 
 -- the first bytes are what is kept of a message, and zeros follow
-pub record IsKept (version front : ℕ) (key bytes note : List ℕ) : Type 0 where
+pub record IsNoted (version front : ℕ) (key bytes note : List ℕ) : Type 0 where
   pub spelled : IsSpelled key note
   pub first : kept version note ≡ take front bytes
   pub zeros : replicate (length bytes - front) 0 ≡ drop front bytes
@@ -113,7 +113,7 @@ pub record IsKept (version front : ℕ) (key bytes note : List ℕ) : Type 0 whe
 -- the bytes are zeros before the first ruling, and keep a message after it
 pub record IsStored (version ruled front : ℕ) (key bytes note : List ℕ) : Type 0 where
   pub unruled : ruled ≡ 0 → (note ≡ []) × (replicate (length bytes) 0 ≡ bytes)
-  pub kept : 1 ≤ ruled → IsKept version front key bytes note
+  pub kept : 1 ≤ ruled → IsNoted version front key bytes note
 
 -- the row has messages with their codes if and only if something was ruled
 pub record HasMessages (r : DeviceRow) : Type 0 where

@@ -24,13 +24,13 @@ pub struct Accounts {
 }
 
 impl Model for Accounts {
-    ghost use Rattle.centre_ledger.specs.Books.{Books, IsKept};
+    ghost use Rattle.centre_ledger.specs.Books.{Books, IsDerived};
 
     ghost Value = { Books };
 
     ghost view = { λ a. record { devices = a.devices; customers = a.customers } };
 
-    ghost invariant = { λ a. IsKept (record { devices = a.devices; customers = a.customers }) a.balances };
+    ghost invariant = { λ a. IsDerived (record { devices = a.devices; customers = a.customers }) a.balances };
 }
 
 fn is_owned(row: &DeviceRow, customers: &[Option<CustomerRow>; 64]) -> bool

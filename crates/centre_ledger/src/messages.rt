@@ -2,7 +2,7 @@
 ghost use Rattle.std.specs.Prelude.{◌≡◌, ◌≤◌, IfSome, IfNone, ℕ, List, length};
 ghost use Rattle.centre_ledger.specs.Payload as layout;
 ghost use Rattle.centre_ledger.specs.Parts as parts;
-ghost use Rattle.centre_ledger.specs.Parts.{IsSpelled, IsKept, IsStored};
+ghost use Rattle.centre_ledger.specs.Parts.{IsSpelled, IsNoted, IsStored};
 
 use crate::page::is_zero;
 use bench_base::bytes::Note;
@@ -62,8 +62,8 @@ pub fn stored(version: u8, ruled: u32, front: usize, bytes: &[u8], key: &ReadyKe
 fn kept(version: u8, front: usize, bytes: &[u8], key: &ReadyKey) -> Option<Note>
     requires front { front ≤ length bytes.now }
     requires size { front ≤ 87 }
-    ensures found { IfSome result (λ note. IsKept version front key.now bytes.now note) }
-    ensures none { IfNone result ((note : List ℕ) → IsKept version front key.now bytes.now note → ⊥) }
+    ensures found { IfSome result (λ note. IsNoted version front key.now bytes.now note) }
+    ensures none { IfNone result ((note : List ℕ) → IsNoted version front key.now bytes.now note → ⊥) }
 {
     if !is_zero(&bytes[front..]) {
         return None;

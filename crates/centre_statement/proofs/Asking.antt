@@ -11,7 +11,7 @@ use Rattle.bench_base.specs.declared.events.Reply.TheVariants as r
 use Rattle.bench_base.specs.Ledger.{Ledger, day_in, is_on, counted}
 use Rattle.bench_base.specs.Plans.{Plan, refuse}
 use Rattle.bench_base.specs.Ranges.{IsCustomer}
-use Rattle.bench_base.specs.Replies.{Told, LostPower, Faulted, PrinterFailed, told_by}
+use Rattle.bench_base.specs.Replies.{ReplyClass, LostPower, Faulted, PrinterFailed, class_of}
 use Rattle.bench_base.specs.Rules.{todays_rules}
 use Rattle.node_acts.specs.Plans.{after, after_told, with_commit, with_torn, FailsTold}
 use Rattle.node_acts.specs.Said.{said_plan}
@@ -70,14 +70,14 @@ module _ (w : ℕ) (H : Ledger) where
   silent_commit None K none = refl
   silent_commit (Some c) K none = absurd (cc)
 
-  failed_plain : (p : Plan) → p.commit ≡ None → (t : Told) → FailsTold p t → (K : Ledger) → after_told p t K ≡ K
+  failed_plain : (p : Plan) → p.commit ≡ None → (t : ReplyClass) → FailsTold p t → (K : Ledger) → after_told p t K ≡ K
   failed_plain p none (LostPower m) fails K = silent_torn p.commit m K none
   failed_plain p none (Faulted m) fails K = silent_torn p.commit m K none
   failed_plain p none (PrinterFailed j) fails K = silent_commit p.commit K none
   failed_plain p none _ fails K = absurd fails
 
-  failed_other : (p : Plan) (reply : Reply) → FailsTold p (told_by reply) → (b : ℕ) → reply ≢ r.Balance w b
-  failed_other p reply fails b is = subst (λ (x : Reply). FailsTold p (told_by x)) is fails
+  failed_other : (p : Plan) (reply : Reply) → FailsTold p (class_of reply) → (b : ℕ) → reply ≢ r.Balance w b
+  failed_other p reply fails b is = subst (λ (x : Reply). FailsTold p (class_of x)) is fails
 
   pub asked : (τ : Tariff) (text : List ℕ) (reply : Reply) → Moves τ todays_rules H (ev.Balance w) text reply → Answered (plan τ todays_rules H (ev.Balance w) text) reply
   asked τ text reply (whole, inl is) =
@@ -90,7 +90,7 @@ module _ (w : ℕ) (H : Ledger) where
   asked τ text reply (whole, inr (inl other)) = absurd ((asks_so τ text).no_up other.node other.count other.answer_is)
   asked τ text reply (whole, inr (inr (inl fails))) = record {
     range = whole;
-    plain = failed_plain (plan τ todays_rules H (ev.Balance w) text) (asks_so τ text).silent (told_by reply) fails;
+    plain = failed_plain (plan τ todays_rules H (ev.Balance w) text) (asks_so τ text).silent (class_of reply) fails;
     told = inr (failed_other (plan τ todays_rules H (ev.Balance w) text) reply fails);
   }
   asked τ text reply (whole, inr (inr (inr unread))) = record {

@@ -15,7 +15,7 @@ use Rattle.bench_base.specs.Nodes.{node_of}
 use Rattle.bench_base.specs.Plans.{Plan, refuse, told}
 use Rattle.bench_base.specs.Events.{needs_day}
 use Rattle.bench_base.specs.Cells.{is_worn}
-use Rattle.bench_base.specs.Replies.{Told, Did, Refused, Armed, CameOn, WentOff, LostPower, Faulted, WasDamaged, PrinterFailed, RatesFailed, told_by}
+use Rattle.bench_base.specs.Replies.{ReplyClass, Did, Refused, Armed, CameOn, WentOff, LostPower, Faulted, WasDamaged, PrinterFailed, RatesFailed, class_of}
 use Rattle.bench_base.specs.Ledger.{Ledger, day_in, rates_in, messages, message, is_on, count_of, counted}
 use Rattle.node_acts.specs.declared.act.Act.{Act}
 use Rattle.node_acts.specs.declared.said.Said.{Said}
@@ -63,7 +63,7 @@ AreCalm (x ∷ y ∷ []) = IsCalm x × IsCalm y
 AreCalm (x ∷ y ∷ z ∷ more) = ⊥
 
 -- what is told after a commit, by what the reply tells, and what an Up shows; of a failure nothing is asked, since nothing is told then
-abbrev pub ByTold : (Node → ℕ → Type 0) → Told → List Entry → Type 0
+abbrev pub ByTold : (Node → ℕ → Type 0) → ReplyClass → List Entry → Type 0
 ByTold Shows Did after = AreCalm after
 ByTold Shows Refused after = AreCalm after
 ByTold Shows (Armed m) after = AreCalm after
@@ -81,9 +81,9 @@ module _ (H : Ledger) where
   ShowsItsCount m k = k ≡ count_of m (counted H)
 
   pub record Clean (p : Plan) : Type 0 where
-    pub told : ByTold ShowsItsCount (told_by p.reply) p.after
+    pub told : ByTold ShowsItsCount (class_of p.reply) p.after
 
-  sure : {p : Plan} → ByTold ShowsItsCount (told_by p.reply) p.after → Clean p
+  sure : {p : Plan} → ByTold ShowsItsCount (class_of p.reply) p.after → Clean p
   sure by = record { told = by }
 
   -- where the node is on and no cell worn
@@ -96,13 +96,13 @@ module _ (H : Ledger) where
 
   -- == devices ==
 
-  acts_ok : {A : Type 0} (d : ℕ) (reply : A → Reply) (tell : A → List Entry) (act : DeviceAct A) → ((a : A) → ByTold ShowsItsCount (told_by (reply a)) (tell a)) → Clean (device.planned d reply tell act)
+  acts_ok : {A : Type 0} (d : ℕ) (reply : A → Reply) (tell : A → List Entry) (act : DeviceAct A) → ((a : A) → ByTold ShowsItsCount (class_of (reply a)) (tell a)) → Clean (device.planned d reply tell act)
   acts_ok d reply tell (Refuse x) tells = sure tt
   acts_ok d reply tell (Tell a) tells = sure (tells a)
   acts_ok d reply tell (Commits c x a) tells = sure (tells a)
 
   -- an act whose answers are said
-  said_ok : {X F A : Type 0} (refusal : F → Reply) (say : A → Said) (act : Act X F A) → ((x : F) → ByTold ShowsItsCount (told_by (refusal x)) []) → ((a : A) → ByTold ShowsItsCount (told_by (say a).reply) (tells (say a)))
+  said_ok : {X F A : Type 0} (refusal : F → Reply) (say : A → Said) (act : Act X F A) → ((x : F) → ByTold ShowsItsCount (class_of (refusal x)) []) → ((a : A) → ByTold ShowsItsCount (class_of (say a).reply) (tells (say a)))
       → Clean (said_plan (saying refusal say act))
   said_ok refusal say (Refuse x) refused done = sure (refused x)
   said_ok refusal say (Tell a) refused done = sure (done a)
@@ -113,13 +113,13 @@ module _ (H : Ledger) where
   resend_ok d k (Some key) None = sure tt
   resend_ok d k (Some key) (Some p) = sure tt
 
-  taken_ok : (d k : ℕ) (t : Taken) → ByTold ShowsItsCount (told_by (device.taken_reply d k t)) (device.taken_tell d k t)
+  taken_ok : (d k : ℕ) (t : Taken) → ByTold ShowsItsCount (class_of (device.taken_reply d k t)) (device.taken_tell d k t)
   taken_ok d k (taken.Applied n v) = tt
   taken_ok d k (taken.Released piece x again) = (tt, tt)
 
   -- == the centre ==
 
-  took_ok : (k : ℕ) (a : CentreAnswer) → ByTold ShowsItsCount (told_by (centre.told_taken k a).reply) (tells (centre.told_taken k a))
+  took_ok : (k : ℕ) (a : CentreAnswer) → ByTold ShowsItsCount (class_of (centre.told_taken k a).reply) (tells (centre.told_taken k a))
   took_ok k (answer.Ruled d n v note again) = tt
   took_ok k (answer.Settled d n again) = tt
 

@@ -8,30 +8,30 @@ use Rattle.centre_statement.specs.Changes.{left_after}
 use Rattle.centre_statement.specs.Desk.{Opened, View, open_in, listed_in, moved_by, noted_by, seen_entry, seen}
 use Rattle.centre_statement.specs.Room.{HasRoom}
 use Rattle.centre_statement.specs.declared.change.Change.{Change}
-use Rattle.centre_statement.specs.declared.said.Said.{Said}
+use Rattle.centre_statement.specs.declared.answer.Answer.{Answer}
 use Rattle.centre_statement.specs.declared.watch.Watch.{Watch}
-use Rattle.centre_statement.specs.declared.said.Said.TheVariants as said
+use Rattle.centre_statement.specs.declared.answer.Answer.TheVariants as answers
 
 -- where a statement is open nothing is listed
-pub lists_none : (w : ℕ) (s : Said) (room : ℕ) (movements : List Movement) → HasRoom (Some w) s room → listed_in s movements ≡ []
-lists_none w said.Nothing room movements h = refl
-lists_none w (said.Opening x) room movements h = refl
-lists_none w said.Closing room movements h = refl
-lists_none w (said.Opened x b) room movements h = refl
-lists_none w (said.Closed b) room movements h = absurd h
-lists_none w said.NoneOpen room movements h = refl
-lists_none w said.Full room movements h = refl
-lists_none w (said.Balance reply) room movements h = refl
+pub lists_none : (w : ℕ) (s : Answer) (room : ℕ) (movements : List Movement) → HasRoom (Some w) s room → listed_in s movements ≡ []
+lists_none w answers.Nothing room movements h = refl
+lists_none w (answers.Opening x) room movements h = refl
+lists_none w answers.Closing room movements h = refl
+lists_none w (answers.Opened x b) room movements h = refl
+lists_none w (answers.Closed b) room movements h = absurd h
+lists_none w answers.NoneOpen room movements h = refl
+lists_none w answers.Full room movements h = refl
+lists_none w (answers.Balance reply) room movements h = refl
 
-pub has_room : (w : ℕ) (s : Said) (room : ℕ) → HasRoom (Some w) s room → IsCustomer w × (10000 ≤ room)
-has_room w said.Nothing room h = h
-has_room w (said.Opening x) room h = h
-has_room w said.Closing room h = h
-has_room w (said.Opened x b) room h = h
-has_room w (said.Closed b) room h = absurd h
-has_room w said.NoneOpen room h = h
-has_room w said.Full room h = h
-has_room w (said.Balance reply) room h = h
+pub has_room : (w : ℕ) (s : Answer) (room : ℕ) → HasRoom (Some w) s room → IsCustomer w × (10000 ≤ room)
+has_room w answers.Nothing room h = h
+has_room w (answers.Opening x) room h = h
+has_room w answers.Closing room h = h
+has_room w (answers.Opened x b) room h = h
+has_room w (answers.Closed b) room h = absurd h
+has_room w answers.NoneOpen room h = h
+has_room w answers.Full room h = h
+has_room w (answers.Balance reply) room h = h
 
 abbrev pub a_movement : Change → ℕ → Movement
 a_movement x balance = record { cause = x.cause; amount = x.amount; balance = balance }
@@ -50,14 +50,14 @@ said_kept v [] = refl
 said_kept v (None ∷ rest) = said_kept v rest
 said_kept v (Some e ∷ rest) = said_kept (seen_entry v (Some e)) rest
 
-abbrev a_view : Watch → Option Opened → Said → List Movement → View
+abbrev a_view : Watch → Option Opened → Answer → List Movement → View
 a_view watch current s listed = record { watch = watch; current = current; said = s; listed = listed }
 
 abbrev an_opened : ℕ → ℕ → Bool → List Movement → Opened
 an_opened w balance full movements = record { customer = w; balance = balance; full = full; movements = movements }
 
 -- a movement more is that of the statement that is open
-pub added : (watch : Watch) (current : Option ℕ) (s : Said) (w before after room : ℕ) (full : Bool) (ms now : List Movement) (x : Change) → current ≡ Some w → HasRoom current s room
+pub added : (watch : Watch) (current : Option ℕ) (s : Answer) (w before after room : ℕ) (full : Bool) (ms now : List Movement) (x : Change) → current ≡ Some w → HasRoom current s room
     → after ≡ left_after before x.cause x.amount → length ms ≢ 10000 → now ≡ ms ++ a_movement x after ∷ []
     → a_view watch (open_in current after full now) s (listed_in s now) ≡ a_view watch (noted_by x (open_in current before full ms)) s (listed_in s ms)
 added watch current s w before after room full ms now x is room_is left other pushed =

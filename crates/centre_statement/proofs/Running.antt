@@ -6,14 +6,14 @@ use Rattle.bench_base.specs.declared.ledger.Entry.TheVariants.{Begin}
 use Rattle.bench_base.specs.Ledger.{Ledger}
 use Rattle.ledger_moves.specs.Tariffs.{Tariff}
 use Rattle.bench.specs.Benches.{Nodes, BenchOf}
-use Rattle.line_runs.specs.Deeds.{Lines, Reads}
+use Rattle.line_runs.specs.Trace.{Lines, Reads}
 use Rattle.line_runs.specs.Runs.{EndsIn, Replayed}
 use Rattle.line_runs.specs.declared.status.Status.TheVariants as status
 use Rattle.line_runs.specs.declared.status.SideStatus.{SideStatus}
 use Rattle.line_runs.specs.declared.status.SideStatus.TheVariants.{Run, Stopped}
-use Rattle.line_extensions.specs.Deeds.{Done}
+use Rattle.line_extensions.specs.Trace.{StepRecord}
 use Rattle.line_extensions.specs.Desks.{world, side_lines, Does}
-use Rattle.line_extensions.specs.SideDeeds.{SideDeed, steps_of}
+use Rattle.line_extensions.specs.SideTrace.{SideStep, steps_of}
 use Rattle.script_replay.specs.Chains.{SceneOf, scene, DidEvents}
 use Rattle.script_replay.specs.Sides.{StepsBy, DidSide, RanSide, EndsSide}
 use Rattle.script_replay.specs.Streams.{Streams}
@@ -26,7 +26,7 @@ use Rattle.centre_statement.specs.declared.lines.OwnLine.{OwnLine}
 use Rattle.centre_statement.proofs.Stating.{Laws, none_broken, all_stated, starts_with}
 use Rattle.line_extensions.proofs.Wanting.{no_words}
 
--- == each line of a run is what its deed says ==
+-- == each line of a run is what its step says ==
 
 module _ {D : Type 0} (l : Lines D) where
   one_read : (done : List D) (last : D) → done ≡ last ∷ [] → Reads l last → AllByRecursion (Reads l) done
@@ -51,11 +51,11 @@ module _ {D : Type 0} (l : Lines D) where
   both_read [] b first second = second
   both_read (d ∷ a) b first second = (first.0, both_read a b first.1 second)
 
-  -- the same deeds, with what their lines say of them
-  pub said_read : (P Q : List D → Type 0) (outcome : SideStatus) (a b t u : Option (List ℕ)) → ((deeds : List D) → AllByRecursion (Reads l) deeds → P deeds → Q deeds)
+  -- the same steps, with what their lines say of them
+  pub said_read : (P Q : List D → Type 0) (outcome : SideStatus) (a b t u : Option (List ℕ)) → ((trace : List D) → AllByRecursion (Reads l) trace → P trace → Q trace)
       → Replayed l outcome P a b t u → Replayed l outcome Q a b t u
   said_read P Q outcome a b t u more r = record {
-    deeds = r.deeds;
+    trace = r.trace;
     each = r.each;
     go_on = r.go_on;
     rest = r.rest;
@@ -65,24 +65,24 @@ module _ {D : Type 0} (l : Lines D) where
     ends = r.ends;
     consumed = r.consumed;
     appended = r.appended;
-    did = more (r.deeds ++ r.done) (both_read r.deeds r.done r.each (last_read outcome _ _ _ _ r.done r.ends)) r.did;
+    did = more (r.trace ++ r.done) (both_read r.trace r.done r.each (last_read outcome _ _ _ _ r.done r.ends)) r.did;
   }
 
 -- == what was done ==
 
 -- at the beginning the bench represents the ledger
-stands_first : (n : Nodes) (τ : Tariff) (L : Ledger) (old new : SceneOf n) (deeds : List Done) (did : DidEvents n old new deeds) → Throughout n τ L old new deeds did → StandsFor n τ old.bench L
+stands_first : (n : Nodes) (τ : Tariff) (L : Ledger) (old new : SceneOf n) (trace : List StepRecord) (did : DidEvents n old new trace) → Throughout n τ L old new trace did → StandsFor n τ old.bench L
 stands_first n τ L old new [] did through = through.stands
 stands_first n τ L old new (d ∷ rest) did through = through.0.stands
 
 module _ (n : Nodes) (laws : Laws) (old new : SceneOf n) (desk after : StatementDesk) (starts : view_of desk ≡ fresh) (outcome : SideStatus) where
-  pub did_statements : (deeds : List (SideDeed OwnLine)) → AllByRecursion (Reads (side_lines statements_desk)) deeds → DidSide n statements_desk (world old desk) (world new after) outcome deeds
-      → DidStatements n old new desk after outcome deeds
-  did_statements deeds reads side = record {
+  pub did_statements : (trace : List (SideStep OwnLine)) → AllByRecursion (Reads (side_lines statements_desk)) trace → DidSide n statements_desk (world old desk) (world new after) outcome trace
+      → DidStatements n old new desk after outcome trace
+  did_statements trace reads side = record {
     side = side;
     stated = λ τ L read_as stands tells unforged.
-        let first = stands_first n τ (Begin ∷ L) (scene side.bench.begun old.outside) side.bench.behind (steps_of deeds) side.bench.steps (side.bench.throughout τ L read_as stands tells) in
-        all_stated n τ laws read_as tells None (world (scene side.begun old.outside) desk) side.behind deeds (Begin ∷ L) reads side.did
+        let first = stands_first n τ (Begin ∷ L) (scene side.bench.begun old.outside) side.bench.behind (steps_of trace) side.bench.steps (side.bench.throughout τ L read_as stands tells) in
+        all_stated n τ laws read_as tells None (world (scene side.begun old.outside) desk) side.behind trace (Begin ∷ L) reads side.did
         (subst (λ (b : BenchOf n). StandsFor n τ b (Begin ∷ L)) side.same first) unforged (starts_with (view_of desk) L starts);
   }
 
@@ -91,10 +91,10 @@ module _ (n : Nodes) (laws : Laws) (old new : SceneOf n) (desk after : Statement
 module _ (n : Nodes) (old new : SceneOf n) (desk after : StatementDesk) (outcome : SideStatus) (stopped : outcome ≡ Stopped) where
   never_broken : (a b t u : Option (List ℕ)) → Replayed (side_lines statements_desk) outcome (DidStatements n old new desk after outcome) a b t u → ⊥
   never_broken a b t u r =
-      let ends = subst (λ (o : SideStatus). EndsIn (side_lines statements_desk) o (length r.deeds + 1) r.rest (IsAtEnd b) r.text r.done) stopped r.ends in
+      let ends = subst (λ (o : SideStatus). EndsIn (side_lines statements_desk) o (length r.trace + 1) r.rest (IsAtEnd b) r.text r.done) stopped r.ends in
       let side = r.did.side in
-      none_broken n (world (scene side.begun old.outside) desk) side.behind r.deeds ends.0.last
-      (subst (λ (done : List (SideDeed OwnLine)). Does statements_desk (StepsBy n) (world (scene side.begun old.outside) desk) side.behind (r.deeds ++ done)) ends.0.only side.did) ends.1
+      none_broken n (world (scene side.begun old.outside) desk) side.behind r.trace ends.0.last
+      (subst (λ (done : List (SideStep OwnLine)). Does statements_desk (StepsBy n) (world (scene side.begun old.outside) desk) side.behind (r.trace ++ done)) ends.0.only side.did) ends.1
 
   pub never_stops : (word : List ℕ) (given : List (List ℕ)) (before now : Streams) → RanSide statements_desk word outcome given (DidStatements n old new desk after outcome) before now
       → EndsSide statements_desk word outcome given before now → ⊥

@@ -9,7 +9,7 @@ use Rattle.bench_base.specs.declared.events.Reply.{Reply}
 use Rattle.bench_base.specs.Ledger.{Ledger, count_of, torn_of, counted}
 use Rattle.bench_base.specs.Nodes.{node_of}
 use Rattle.bench_base.specs.Plans.{Plan}
-use Rattle.bench_base.specs.Replies.{Told, Did, Refused, Armed, CameOn, WentOff, LostPower, Faulted, WasDamaged, PrinterFailed, RatesFailed, told_by}
+use Rattle.bench_base.specs.Replies.{ReplyClass, Did, Refused, Armed, CameOn, WentOff, LostPower, Faulted, WasDamaged, PrinterFailed, RatesFailed, class_of}
 use Rattle.bench_base.specs.Rules.{todays_rules}
 use Rattle.node_acts.specs.Plans.{with_commit, with_torn, after, after_told, FailsTold}
 use Rattle.node_turns.specs.Turns.{in_order}
@@ -49,11 +49,11 @@ torn_turn o v H m None with_it = with_it
 torn_turn o v H m (Some c) with_it = torn_entry o v H m c with_it
 
 -- the number of an Up fits 64 bits
-abbrev pub IsSmall : Told → Type 0
+abbrev pub IsSmall : ReplyClass → Type 0
 IsSmall (CameOn m k) = k < 2 ^ 64
 IsSmall _ = Unit {0}
 
-told_turn : (o : Option OpenedAt) (v : View) (H : Ledger) (p : Plan) (t : Told) → ((m : Node) (c : Commit) → torn_of m H ≡ Some c → node_of c ≡ m) → IsSmall t → ByTold (ShowsCount H) t p.after
+told_turn : (o : Option OpenedAt) (v : View) (H : Ledger) (p : Plan) (t : ReplyClass) → ((m : Node) (c : Commit) → torn_of m H ≡ Some c → node_of c ≡ m) → IsSmall t → ByTold (ShowsCount H) t p.after
     → Sound (counted (after_told p t H)) → GoesWith o v H → GoesWith o (seen v (in_order (after_told p t []))) (after_told p t H)
 told_turn o v H p Did own small by sound with_it = calm_turn o v H p.after p.commit by sound with_it
 told_turn o v H p Refused own small by sound with_it = calm_turn o v H p.after p.commit by sound with_it
@@ -68,7 +68,7 @@ told_turn o v H p RatesFailed own small by sound with_it = with_it
 
 -- == the replies that an event may get ==
 
-weaker : (P Q : Node → ℕ → Type 0) → ((m : Node) (k : ℕ) → P m k → Q m k) → (t : Told) (told : List Entry) → ByTold P t told → ByTold Q t told
+weaker : (P Q : Node → ℕ → Type 0) → ((m : Node) (k : ℕ) → P m k → Q m k) → (t : ReplyClass) (told : List Entry) → ByTold P t told → ByTold Q t told
 weaker P Q more (CameOn m k) told by = more m k by
 weaker P Q more Did told by = by
 weaker P Q more Refused told by = by
@@ -82,29 +82,29 @@ weaker P Q more RatesFailed told by = by
 
 module _ (H : Ledger) (p : Plan) (clean : Clean H p) where
   -- the answer with one commit more
-  other_up : (reply : Reply) → OtherUp p.reply reply H → ByTold (ShowsCount H) (told_by reply) p.after
+  other_up : (reply : Reply) → OtherUp p.reply reply H → ByTold (ShowsCount H) (class_of reply) p.after
   other_up reply other =
-      let count : other.count ≡ count_of other.node (counted H) = subst (λ (x : Reply). ByTold (ShowsItsCount H) (told_by x) p.after) other.answer_is clean.told in
+      let count : other.count ≡ count_of other.node (counted H) = subst (λ (x : Reply). ByTold (ShowsItsCount H) (class_of x) p.after) other.answer_is clean.told in
       let shows : ShowsCount H other.node (other.count + 1) = inr (ap (λ (k : ℕ). k + 1) count, other.torn) in
-      subst (λ (x : Reply). ByTold (ShowsCount H) (told_by x) p.after) (sym other.more) shows
+      subst (λ (x : Reply). ByTold (ShowsCount H) (class_of x) p.after) (sym other.more) shows
 
-  fails : (t : Told) → FailsTold p t → ByTold (ShowsCount H) t p.after
+  fails : (t : ReplyClass) → FailsTold p t → ByTold (ShowsCount H) t p.after
   fails (LostPower m) failed = tt
   fails (Faulted m) failed = tt
   fails (PrinterFailed j) failed = tt
   fails _ failed = absurd failed
 
-pub moves_told : (τ : Tariff) (H : Ledger) (x : Event) (text : List ℕ) (reply : Reply) → Moves τ todays_rules H x text reply → ByTold (ShowsCount H) (told_by reply) (plan τ todays_rules H x text).after
+pub moves_told : (τ : Tariff) (H : Ledger) (x : Event) (text : List ℕ) (reply : Reply) → Moves τ todays_rules H x text reply → ByTold (ShowsCount H) (class_of reply) (plan τ todays_rules H x text).after
 moves_told τ H x text reply (whole, inl is) =
-    subst (λ (y : Reply). ByTold (ShowsCount H) (told_by y) (plan τ todays_rules H x text).after) (sym is)
-    (weaker (ShowsItsCount H) (ShowsCount H) (λ m k same. inl same) (told_by (plan τ todays_rules H x text).reply) (plan τ todays_rules H x text).after (plan_calm H τ x text).told)
+    subst (λ (y : Reply). ByTold (ShowsCount H) (class_of y) (plan τ todays_rules H x text).after) (sym is)
+    (weaker (ShowsItsCount H) (ShowsCount H) (λ m k same. inl same) (class_of (plan τ todays_rules H x text).reply) (plan τ todays_rules H x text).after (plan_calm H τ x text).told)
 moves_told τ H x text reply (whole, inr (inl other)) = other_up H (plan τ todays_rules H x text) (plan_calm H τ x text) reply other
-moves_told τ H x text reply (whole, inr (inr (inl failed))) = fails H (plan τ todays_rules H x text) (plan_calm H τ x text) (told_by reply) failed
-moves_told τ H x text reply (whole, inr (inr (inr unread))) = subst (λ (y : Reply). ByTold (ShowsCount H) (told_by y) (plan τ todays_rules H x text).after) (sym unread.reply_is) tt
+moves_told τ H x text reply (whole, inr (inr (inl failed))) = fails H (plan τ todays_rules H x text) (plan_calm H τ x text) (class_of reply) failed
+moves_told τ H x text reply (whole, inr (inr (inr unread))) = subst (λ (y : Reply). ByTold (ShowsCount H) (class_of y) (plan τ todays_rules H x text).after) (sym unread.reply_is) tt
 
 -- WHAT THE DESK SEES OF A TURN GOES WITH THE LEDGER AFTER IT
 pub turn_seen : (o : Option OpenedAt) (v : View) (τ : Tariff) (H : Ledger) (x : Event) (text : List ℕ) (reply : Reply) → ((m : Node) (c : Commit) → torn_of m H ≡ Some c → node_of c ≡ m)
-    → IsSmall (told_by reply) → Moves τ todays_rules H x text reply → Sound (counted (after (plan τ todays_rules H x text) reply H)) → GoesWith o v H
+    → IsSmall (class_of reply) → Moves τ todays_rules H x text reply → Sound (counted (after (plan τ todays_rules H x text) reply H)) → GoesWith o v H
     → GoesWith o (seen v (in_order (after (plan τ todays_rules H x text) reply []))) (after (plan τ todays_rules H x text) reply H)
 turn_seen o v τ H x text reply own small moves sound with_it =
-    told_turn o v H (plan τ todays_rules H x text) (told_by reply) own small (moves_told τ H x text reply moves) sound with_it
+    told_turn o v H (plan τ todays_rules H x text) (class_of reply) own small (moves_told τ H x text reply moves) sound with_it

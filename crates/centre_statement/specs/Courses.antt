@@ -4,14 +4,14 @@ use Rattle.bench_base.specs.declared.events.Event.TheVariants as ev
 use Rattle.bench_base.specs.declared.events.Reply.{Reply}
 use Rattle.bench_base.specs.declared.events.Reply.TheVariants as r
 use Rattle.node_turns.specs.declared.turn.Turn.{Turn}
-use Rattle.line_extensions.specs.declared.desk.Next.{Next}
-use Rattle.line_extensions.specs.declared.desk.Next.TheVariants.{Step, Say}
+use Rattle.line_extensions.specs.declared.extension.Next.{Next}
+use Rattle.line_extensions.specs.declared.extension.Next.TheVariants.{Step, Say}
 use Rattle.statement_check.specs.declared.line.Movement.{Movement}
 use Rattle.centre_statement.specs.Desk.{View, Opened, seen}
 use Rattle.centre_statement.specs.declared.lines.OwnLine.{OwnLine}
 use Rattle.centre_statement.specs.declared.lines.OwnLine.TheVariants.{Open, Close}
-use Rattle.centre_statement.specs.declared.said.Said.{Said}
-use Rattle.centre_statement.specs.declared.said.Said.TheVariants as said
+use Rattle.centre_statement.specs.declared.answer.Answer.{Answer}
+use Rattle.centre_statement.specs.declared.answer.Answer.TheVariants as answers
 
 -- a statement is opened in memory that is taken with the line
 abbrev pub MayWant : OwnLine → Type 0
@@ -19,70 +19,70 @@ MayWant (Open w) = Unit {0}
 MayWant Close = ⊥
 
 -- an answer that neither awaits a balance to open with nor lists movements
-abbrev pub IsPlain : Said → Type 0
-IsPlain said.Nothing = Unit {0}
-IsPlain (said.Opening w) = ⊥
-IsPlain said.Closing = Unit {0}
-IsPlain (said.Opened w b) = Unit {0}
-IsPlain (said.Closed b) = ⊥
-IsPlain said.NoneOpen = Unit {0}
-IsPlain said.Full = Unit {0}
-IsPlain (said.Balance reply) = Unit {0}
+abbrev pub IsPlain : Answer → Type 0
+IsPlain answers.Nothing = Unit {0}
+IsPlain (answers.Opening w) = ⊥
+IsPlain answers.Closing = Unit {0}
+IsPlain (answers.Opened w b) = Unit {0}
+IsPlain (answers.Closed b) = ⊥
+IsPlain answers.NoneOpen = Unit {0}
+IsPlain answers.Full = Unit {0}
+IsPlain (answers.Balance reply) = Unit {0}
 
 -- it says so, and lists nothing
-abbrev pub saying : Said → View → View
+abbrev pub saying : Answer → View → View
 saying s v = record v { said = s; listed = [] }
 
 -- before: each line asks for the balance of the statement's customer; without an open one there is nothing to close
 abbrev pub BeginsClose : Option Opened → View → Next → View → Type 0
-BeginsClose None v next t = (next ≡ Say) × (t ≡ saying said.NoneOpen v)
-BeginsClose (Some s) v next t = (next ≡ Step (ev.Balance s.customer)) × (t ≡ saying said.Closing v)
+BeginsClose None v next t = (next ≡ Say) × (t ≡ saying answers.NoneOpen v)
+BeginsClose (Some s) v next t = (next ≡ Step (ev.Balance s.customer)) × (t ≡ saying answers.Closing v)
 
 abbrev pub Begins : View → OwnLine → Next → View → Type 0
-Begins v (Open w) next t = (next ≡ Step (ev.Balance w)) × (t ≡ saying (said.Opening w) v)
+Begins v (Open w) next t = (next ≡ Step (ev.Balance w)) × (t ≡ saying (answers.Opening w) v)
 Begins v Close next t = BeginsClose v.current v next t
 
 -- after: another answer than the balance is told, and nothing is opened or closed
 abbrev pub ByBalance : ℕ → Reply → (ℕ → View) → View → View → Type 0
-ByBalance w reply then v t = ((b : ℕ) × (reply ≡ r.Balance w b) × (t ≡ then b)) ⊎ (((b : ℕ) → reply ≢ r.Balance w b) × (t ≡ saying (said.Balance reply) v))
+ByBalance w reply then v t = ((b : ℕ) × (reply ≡ r.Balance w b) × (t ≡ then b)) ⊎ (((b : ℕ) → reply ≢ r.Balance w b) × (t ≡ saying (answers.Balance reply) v))
 
 -- a statement is opened, and an earlier one is dropped
 abbrev pub opened : ℕ → View → ℕ → View
 opened w v b = record {
   watch = v.watch;
   current = Some (record { customer = w; balance = b; full = false; movements = [] });
-  said = said.Opened w b;
+  said = answers.Opened w b;
   listed = [];
 }
 
 -- the one that is open is closed: its movements are listed, unless there were more than it holds
 abbrev pub closed_with : Bool → List Movement → View → ℕ → View
-closed_with true movements v b = record { watch = v.watch; current = None; said = said.Full; listed = [] }
-closed_with false movements v b = record { watch = v.watch; current = None; said = said.Closed b; listed = movements }
+closed_with true movements v b = record { watch = v.watch; current = None; said = answers.Full; listed = [] }
+closed_with false movements v b = record { watch = v.watch; current = None; said = answers.Closed b; listed = movements }
 
 abbrev pub Closes : Option Opened → Reply → View → View → Type 0
-Closes None reply v t = t ≡ saying (said.Balance reply) v
+Closes None reply v t = t ≡ saying (answers.Balance reply) v
 Closes (Some s) reply v t = ByBalance s.customer reply (closed_with s.full s.movements v) v t
 
-abbrev pub Answers : Said → Reply → View → View → Type 0
-Answers (said.Opening w) reply v t = ByBalance w reply (opened w v) v t
-Answers said.Closing reply v t = Closes v.current reply v t
-Answers said.Nothing reply v t = t ≡ v
-Answers (said.Opened w b) reply v t = t ≡ v
-Answers (said.Closed b) reply v t = t ≡ v
-Answers said.NoneOpen reply v t = t ≡ v
-Answers said.Full reply v t = t ≡ v
-Answers (said.Balance told) reply v t = t ≡ v
+abbrev pub Answers : Answer → Reply → View → View → Type 0
+Answers (answers.Opening w) reply v t = ByBalance w reply (opened w v) v t
+Answers answers.Closing reply v t = Closes v.current reply v t
+Answers answers.Nothing reply v t = t ≡ v
+Answers (answers.Opened w b) reply v t = t ≡ v
+Answers (answers.Closed b) reply v t = t ≡ v
+Answers answers.NoneOpen reply v t = t ≡ v
+Answers answers.Full reply v t = t ≡ v
+Answers (answers.Balance told) reply v t = t ≡ v
 
 abbrev pub GoesOn : View → Turn → Next → View → Type 0
 GoesOn v turn next t = (next ≡ Say) × Answers v.said turn.reply (seen v turn.entries) t
 
 -- the customer whose balance is awaited to open a statement, or that none is
-abbrev pub IfOpening : Option ℕ → Said → Type 0
-IfOpening (Some w) s = s ≡ said.Opening w
-IfOpening None s = (w : ℕ) → s ≢ said.Opening w
+abbrev pub IfOpening : Option ℕ → Answer → Type 0
+IfOpening (Some w) s = s ≡ answers.Opening w
+IfOpening None s = (w : ℕ) → s ≢ answers.Opening w
 
 -- whether the balance is awaited to close the one that is open
-abbrev pub IfClosing : Bool → Said → Type 0
-IfClosing true s = s ≡ said.Closing
-IfClosing false s = s ≢ said.Closing
+abbrev pub IfClosing : Bool → Answer → Type 0
+IfClosing true s = s ≡ answers.Closing
+IfClosing false s = s ≢ answers.Closing

@@ -7,8 +7,8 @@ use Rattle.centre_statement.specs.Changes.{change_in, left_after}
 use Rattle.centre_statement.specs.Watching.{counted_by, watched}
 use Rattle.centre_statement.specs.declared.change.Change.{Change}
 use Rattle.centre_statement.specs.declared.desk.StatementDesk.{StatementDesk}
-use Rattle.centre_statement.specs.declared.said.Said.{Said}
-use Rattle.centre_statement.specs.declared.said.Said.TheVariants as said
+use Rattle.centre_statement.specs.declared.answer.Answer.{Answer}
+use Rattle.centre_statement.specs.declared.answer.Answer.TheVariants as answers
 use Rattle.centre_statement.specs.declared.watch.Watch.{Watch}
 
 -- a statement that is open: the customer, the balance after the movements so far, and whether there were more than it holds
@@ -22,22 +22,22 @@ pub record Opened : Type 0 where
 pub record View : Type 0 where
   pub watch : Watch
   pub current : Option Opened
-  pub said : Said
+  pub said : Answer
   pub listed : List Movement
 
 abbrev pub open_in : Option ℕ → ℕ → Bool → List Movement → Option Opened
 open_in None balance full movements = None
 open_in (Some w) balance full movements = Some (record { customer = w; balance = balance; full = full; movements = movements })
 
-abbrev pub listed_in : Said → List Movement → List Movement
-listed_in said.Nothing movements = []
-listed_in (said.Opening w) movements = []
-listed_in said.Closing movements = []
-listed_in (said.Opened w b) movements = []
-listed_in (said.Closed b) movements = movements
-listed_in said.NoneOpen movements = []
-listed_in said.Full movements = []
-listed_in (said.Balance reply) movements = []
+abbrev pub listed_in : Answer → List Movement → List Movement
+listed_in answers.Nothing movements = []
+listed_in (answers.Opening w) movements = []
+listed_in answers.Closing movements = []
+listed_in (answers.Opened w b) movements = []
+listed_in (answers.Closed b) movements = movements
+listed_in answers.NoneOpen movements = []
+listed_in answers.Full movements = []
+listed_in (answers.Balance reply) movements = []
 
 abbrev pub view_of : StatementDesk → View
 view_of d = record { watch = d.watch; current = open_in d.current d.balance d.is_full d.movements.items; said = d.said; listed = listed_in d.said d.movements.items }
@@ -74,7 +74,7 @@ seen v (e ∷ rest) = seen (seen_entry v e) rest
 
 -- a desk that has seen nothing
 abbrev pub fresh : View
-fresh = record { watch = record { commits = 0; torn = None }; current = None; said = said.Nothing; listed = [] }
+fresh = record { watch = record { commits = 0; torn = None }; current = None; said = answers.Nothing; listed = [] }
 
 -- a change of the statement that is open
 abbrev pub noted_by : Change → Option Opened → Option Opened

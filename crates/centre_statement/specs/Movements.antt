@@ -5,11 +5,11 @@ use Rattle.bench_base.specs.declared.events.Reply.{Reply}
 use Rattle.bench_base.specs.declared.events.Reply.TheVariants as r
 use Rattle.bench_base.specs.declared.ledger.Commit.{Commit}
 use Rattle.bench_base.specs.Ledger.{Ledger, counted}
-use Rattle.line_extensions.specs.Deeds.{Done, done_in}
-use Rattle.line_extensions.specs.SideDeeds.{SideDeed, Plain, Own, Broken}
+use Rattle.line_extensions.specs.Trace.{StepRecord, done_in}
+use Rattle.line_extensions.specs.SideTrace.{SideStep, Plain, Own, Broken}
 use Rattle.ledger_moves.specs.Tariffs.{Tariff}
 use Rattle.ledger_terms.specs.Centres.{balance}
-use Rattle.script_replay.specs.Deeds.{ledger_after}
+use Rattle.script_replay.specs.Trace.{ledger_after}
 use Rattle.script_text.specs.Texts.{text_of}
 use Rattle.statement_check.specs.Lines.{line_text}
 use Rattle.statement_check.specs.declared.line.Movement.{Movement}
@@ -41,8 +41,8 @@ pub record OpenedAt : Type 0 where
   pub counted : List Commit
 
 -- one step was done, which asked for this customer's balance
-pub record AsksBalance (w : ℕ) (steps : List Done) : Type 0 where
-  pub step : Done
+pub record AsksBalance (w : ℕ) (steps : List StepRecord) : Type 0 where
+  pub step : StepRecord
   pub only : steps ≡ step ∷ []
   pub event : step.event ≡ ev.Balance w
 
@@ -72,7 +72,7 @@ pub record TellsMovements (o : OpenedAt) (C : List Commit) (reply : Reply) (text
 -- == the lines of a run ==
 
 -- an own line, where these commits count, by the statement that was open; and the one that is open now
-abbrev pub IsStated : OwnLine → Option OpenedAt → List Commit → List Done → List (List ℕ) → Option OpenedAt → Type 0
+abbrev pub IsStated : OwnLine → Option OpenedAt → List Commit → List StepRecord → List (List ℕ) → Option OpenedAt → Type 0
 IsStated (Open w) was C steps texts now =
     (asks : AsksBalance w steps) × (TellsOpening w C asks.step.reply texts now ⊎ (IsRefused w asks.step.reply texts × (now ≡ was)))
 IsStated Close None C steps texts now = (steps ≡ []) × (texts ≡ codes "refused statement none" ∷ []) × (now ≡ None)
@@ -80,7 +80,7 @@ IsStated Close (Some o) C steps texts now =
     (asks : AsksBalance o.customer steps) × (TellsMovements o C asks.step.reply texts now ⊎ (IsRefused o.customer asks.step.reply texts × (now ≡ Some o)))
 
 -- so is each own line of a run from this ledger on, in turn; no line breaks off
-abbrev pub AreStated : Tariff → Option OpenedAt → Ledger → List (SideDeed OwnLine) → Type 0
+abbrev pub AreStated : Tariff → Option OpenedAt → Ledger → List (SideStep OwnLine) → Type 0
 AreStated τ o H [] = Unit {0}
 AreStated τ o H (Plain d ∷ rest) = AreStated τ o (ledger_after τ H (done_in (d ∷ []))) rest
 AreStated τ o H (Own line own steps texts ∷ rest) =

@@ -6,10 +6,10 @@ use Rattle.bench.specs.Benches.{Nodes}
 use Rattle.bench_abstraction.specs.Tariff.{IsOfTexts}
 use Rattle.line_runs.specs.declared.status.SideStatus.{SideStatus}
 use Rattle.line_extensions.specs.Desks.{world}
-use Rattle.line_extensions.specs.SideDeeds.{SideDeed, steps_of}
+use Rattle.line_extensions.specs.SideTrace.{SideStep, steps_of}
 use Rattle.ledger_moves.specs.Tariffs.{Tariff}
 use Rattle.script_replay.specs.Chains.{SceneOf}
-use Rattle.script_replay.specs.Deeds.{AreUnforged}
+use Rattle.script_replay.specs.Trace.{AreUnforged}
 use Rattle.script_replay.specs.Run.{Unforged}
 use Rattle.script_replay.specs.Sides.{DidSide, RanSide}
 use Rattle.script_replay.specs.Streams.{Streams}
@@ -20,12 +20,12 @@ use Rattle.centre_statement.specs.StatementsDesk.{statements_desk}
 use Rattle.centre_statement.specs.declared.desk.StatementDesk.{StatementDesk}
 use Rattle.centre_statement.specs.declared.lines.OwnLine.{OwnLine}
 
--- Desk and bench did the deeds, from this desk on: what the desk does and answers for each line is told of by its own definitions. By a history for which
+-- Desk and bench did the steps, from this desk on: what the desk does and answers for each line is told of by its own definitions. By a history for which
 -- the bench stood, and where nothing was forged, each statement has the movements that were counted while it was open.
-pub record DidStatements (n : Nodes) (old new : SceneOf n) (before now : StatementDesk) (outcome : SideStatus) (deeds : List (SideDeed OwnLine)) : Type 0 where
-  pub side : DidSide n statements_desk (world old before) (world new now) outcome deeds
-  pub stated : (τ : Tariff) (L : Ledger) → IsOfTexts τ → StandsFor n τ old.bench L → n.storage.tells → AreUnforged τ Unforged (Begin ∷ L) (steps_of deeds)
-      → AreStated τ None (Begin ∷ L) deeds
+pub record DidStatements (n : Nodes) (old new : SceneOf n) (before now : StatementDesk) (outcome : SideStatus) (trace : List (SideStep OwnLine)) : Type 0 where
+  pub side : DidSide n statements_desk (world old before) (world new now) outcome trace
+  pub stated : (τ : Tariff) (L : Ledger) → IsOfTexts τ → StandsFor n τ old.bench L → n.storage.tells → AreUnforged τ Unforged (Begin ∷ L) (steps_of trace)
+      → AreStated τ None (Begin ∷ L) trace
 
 -- It was run with a desk that had seen nothing.
 pub record RanStatement (n : Nodes) (outcome : SideStatus) (given : List (List ℕ)) (old new : SceneOf n) (before now : Streams) : Type 0 where

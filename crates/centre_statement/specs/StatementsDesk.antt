@@ -1,7 +1,7 @@
 -- The desk of statements, as a desk.
 use Rattle.std.specs.Prelude.{◌≡◌}
 use Rattle.node_turns.specs.declared.turn.Turn.{Turn}
-use Rattle.line_extensions.specs.declared.desk.Desk.{Ghosts}
+use Rattle.line_extensions.specs.declared.extension.Extension.{Ghosts}
 use Rattle.centre_statement.specs.Courses.{MayWant, Begins, GoesOn}
 use Rattle.centre_statement.specs.Desk.{view_of, seen}
 use Rattle.centre_statement.specs.OwnLines.{IsOwnLine}

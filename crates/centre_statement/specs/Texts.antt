@@ -4,20 +4,20 @@ use Rattle.script_text.specs.Texts.{text_of}
 use Rattle.statement_check.specs.Lines.{line_text}
 use Rattle.statement_check.specs.declared.line.Movement.{Movement}
 use Rattle.statement_check.specs.declared.line.StatementLine.TheVariants.{Opening, Moved, Closing}
-use Rattle.centre_statement.specs.declared.said.Said.{Said}
-use Rattle.centre_statement.specs.declared.said.Said.TheVariants as said
+use Rattle.centre_statement.specs.declared.answer.Answer.{Answer}
+use Rattle.centre_statement.specs.declared.answer.Answer.TheVariants as answers
 
 -- the lines of the movements, and the closing line
 abbrev pub closed_texts : List Movement → ℕ → List (List ℕ)
 closed_texts movements b = map (λ m. line_text (Moved m)) movements ++ line_text (Closing b) ∷ []
 
 -- the texts of an answer, with these movements: there is none while a balance is awaited
-abbrev pub said_texts : Said → List Movement → List (List ℕ)
-said_texts said.Nothing movements = []
-said_texts (said.Opening w) movements = []
-said_texts said.Closing movements = []
-said_texts (said.Opened w b) movements = line_text (Opening w b) ∷ []
-said_texts (said.Closed b) movements = closed_texts movements b
-said_texts said.NoneOpen movements = codes "refused statement none" ∷ []
-said_texts said.Full movements = codes "refused statement full" ∷ []
-said_texts (said.Balance reply) movements = text_of reply ∷ []
+abbrev pub said_texts : Answer → List Movement → List (List ℕ)
+said_texts answers.Nothing movements = []
+said_texts (answers.Opening w) movements = []
+said_texts answers.Closing movements = []
+said_texts (answers.Opened w b) movements = line_text (Opening w b) ∷ []
+said_texts (answers.Closed b) movements = closed_texts movements b
+said_texts answers.NoneOpen movements = codes "refused statement none" ∷ []
+said_texts answers.Full movements = codes "refused statement full" ∷ []
+said_texts (answers.Balance reply) movements = text_of reply ∷ []

@@ -7,10 +7,10 @@ ghost use Rattle.centre_statement.specs.OwnLines.{IsLine};
 ghost use Rattle.std.specs.Vec.{vec_capacity};
 ghost use Rattle.centre_statement.specs.Texts.{said_texts};
 
+use crate::answer::Answer;
 use crate::balance::balance_in;
 use crate::desk::{MOST_MOVEMENTS, StatementDesk};
 use crate::lines::OwnLine;
-use crate::said::Said;
 use bench_base::events::{Event, Reply};
 use bench_base::numbers::Customer;
 use line_extensions::Next;
@@ -20,7 +20,7 @@ use std::alloc::{AllocError, Global};
 impl StatementDesk {
     // Takes the memory of a statement, where there is none. Nothing else is another.
     fn take_room(&mut self, alloc: Global, customer: Customer) -> Result<(), AllocError>
-        ensures ok { IfOk result (λ x. view_of self.new ≡ saying (Said.Opening customer) (view_of self.old)) }
+        ensures ok { IfOk result (λ x. view_of self.new ≡ saying (Answer.Opening customer) (view_of self.old)) }
         ensures memory { OnErr result (self.new ≡ self.old) }
     {
         if self.movements.capacity() < MOST_MOVEMENTS {
@@ -30,12 +30,12 @@ impl StatementDesk {
             };
             self.movements = movements;
         }
-        self.said = Said::Opening(customer);
+        self.said = Answer::Opening(customer);
         Ok(())
     }
 
     // Says so, and lists nothing.
-    fn say(&mut self, said: Said)
+    fn say(&mut self, said: Answer)
         requires said { IsPlain said }
         ensures { view_of self.new ≡ saying said (view_of self.old) }
     {
@@ -56,11 +56,11 @@ impl StatementDesk {
             },
             OwnLine::Close => match self.current {
                 Some(customer) => {
-                    self.say(Said::Closing);
+                    self.say(Answer::Closing);
                     Ok(Next::Step(Event::Balance(customer)))
                 }
                 None => {
-                    self.say(Said::NoneOpen);
+                    self.say(Answer::NoneOpen);
                     Ok(Next::Say)
                 }
             },
@@ -76,7 +76,7 @@ impl StatementDesk {
         self.balance = balance;
         self.is_full = false;
         self.movements.clear();
-        self.said = Said::Opened(customer, balance);
+        self.said = Answer::Opened(customer, balance);
     }
 
     // Closes the statement that is open, at this balance.
@@ -86,9 +86,9 @@ impl StatementDesk {
     {
         self.current = None;
         self.said = if self.is_full {
-            Said::Full
+            Answer::Full
         } else {
-            Said::Closed(balance)
+            Answer::Closed(balance)
         };
     }
 
@@ -97,14 +97,14 @@ impl StatementDesk {
         ensures { IfOpening result self.now.said }
     {
         match &self.said {
-            Said::Opening(customer) => Some(*customer),
-            Said::Nothing
-            | Said::Closing
-            | Said::Opened(_, _)
-            | Said::Closed(_)
-            | Said::NoneOpen
-            | Said::Full
-            | Said::Balance(_) => None,
+            Answer::Opening(customer) => Some(*customer),
+            Answer::Nothing
+            | Answer::Closing
+            | Answer::Opened(_, _)
+            | Answer::Closed(_)
+            | Answer::NoneOpen
+            | Answer::Full
+            | Answer::Balance(_) => None,
         }
     }
 
@@ -113,14 +113,14 @@ impl StatementDesk {
         ensures { IfClosing result self.now.said }
     {
         match &self.said {
-            Said::Closing => true,
-            Said::Nothing
-            | Said::Opening(_)
-            | Said::Opened(_, _)
-            | Said::Closed(_)
-            | Said::NoneOpen
-            | Said::Full
-            | Said::Balance(_) => false,
+            Answer::Closing => true,
+            Answer::Nothing
+            | Answer::Opening(_)
+            | Answer::Opened(_, _)
+            | Answer::Closed(_)
+            | Answer::NoneOpen
+            | Answer::Full
+            | Answer::Balance(_) => false,
         }
     }
 
@@ -139,12 +139,12 @@ impl StatementDesk {
     }
 
     fn answer_open(&mut self, customer: Customer, reply: &Reply)
-        requires opening { self.old.said ≡ Said.Opening customer }
+        requires opening { self.old.said ≡ Answer.Opening customer }
         ensures { ByBalance customer reply.now (opened customer (view_of self.old)) (view_of self.old) (view_of self.new) }
     {
         match balance_in(reply, customer) {
             Some(balance) => self.open_at(customer, balance),
-            None => self.say(Said::Balance(*reply)),
+            None => self.say(Answer::Balance(*reply)),
         }
     }
 
@@ -152,12 +152,12 @@ impl StatementDesk {
         ensures { Closes (view_of self.old).current reply.now (view_of self.old) (view_of self.new) }
     {
         let Some(customer) = self.current else {
-            self.say(Said::Balance(*reply));
+            self.say(Answer::Balance(*reply));
             return;
         };
         match balance_in(reply, customer) {
             Some(balance) => self.close_at(balance),
-            None => self.say(Said::Balance(*reply)),
+            None => self.say(Answer::Balance(*reply)),
         }
     }
 

@@ -3,7 +3,7 @@ ghost use Rattle.std.specs.Prelude.{◌≤◌, length};
 ghost use Rattle.std.specs.Vec.{vec_capacity};
 ghost use Rattle.centre_statement.specs.Room.{HasRoom, room_prop};
 
-use crate::said::Said;
+use crate::answer::Answer;
 use crate::watch::Watch;
 use bench_base::numbers::Customer;
 use statement_check::Movement;
@@ -22,7 +22,7 @@ pub struct StatementDesk {
     /// Whether there were more movements than there is room for.
     pub(crate) is_full: bool,
     pub(crate) movements: Vec<Movement>,
-    pub(crate) said: Said,
+    pub(crate) said: Answer,
     ghost few: { length movements.items ≤ 10000 },
     ghost room: { HasRoom current said (vec_capacity movements) } by { room_prop current said (vec_capacity movements) },
 }

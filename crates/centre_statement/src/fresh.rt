@@ -31,7 +31,7 @@ fn run_over<S: BufSource, K: Sink>(
     requires tells { ⟦<MemNv as Nv>⟧.tells }
     requires stands { Stands ⟦<Bench<MemNv> as HasNodes>⟧.nodes (bench_of bench) [] }
     requires made { IsOverFresh (bench_of bench) }
-    ensures ran { RanSideFresh ⟦<Bench<MemNv> as HasNodes>⟧.nodes ⟦<StatementDesk as line_extensions::Desk>⟧
+    ensures ran { RanSideFresh ⟦<Bench<MemNv> as HasNodes>⟧.nodes ⟦<StatementDesk as line_extensions::Extension>⟧
         (λ made. IsOverFresh made) (codes "statement") result (map string_bytes words.now)
         (λ old new. DidFreshStatements ⟦<Bench<MemNv> as HasNodes>⟧.nodes old new result)
         (streams_of S.Source K.Sink ⟦<MemSource as Source>⟧ ⟦<MemSink as Sink>⟧
@@ -57,7 +57,7 @@ pub fn run_fresh_statement<S: BufSource, K: Sink>(
     printer: &mut MemSink,
 ) -> Option<SideStatus>
     ensures ran { IfSome result (λ outcome. RanSideFresh ⟦<Bench<MemNv> as HasNodes>⟧.nodes
-        ⟦<StatementDesk as line_extensions::Desk>⟧ (λ made. IsOverFresh made) (codes "statement") outcome
+        ⟦<StatementDesk as line_extensions::Extension>⟧ (λ made. IsOverFresh made) (codes "statement") outcome
         (map string_bytes words.now)
         (λ old new. DidFreshStatements ⟦<Bench<MemNv> as HasNodes>⟧.nodes old new outcome)
         (streams_of S.Source K.Sink ⟦<MemSource as Source>⟧ ⟦<MemSink as Sink>⟧

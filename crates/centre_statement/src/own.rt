@@ -11,12 +11,12 @@ ghost use Rattle.centre_statement.specs.declared.lines.OwnLine.TheVariants as ow
 use crate::desk::StatementDesk;
 use crate::lines::read_own_line;
 use bench_base::events::Event;
-use line_extensions::{Desk, Next};
+use line_extensions::{Extension, Next};
 use node_turns::Turn;
 use script_words::Line;
 use std::alloc::{AllocError, Global};
 
-impl Desk for StatementDesk {
+impl Extension for StatementDesk {
     type Heard = Turn;
 
     ghost Own = { TheLine };

@@ -36,10 +36,10 @@ pub fn run_statement<S: BufSource, R: Source, K: Sink, P: Sink, N: Nv + Drop>(
         (streams_of S.Source K.Sink R.Source P.Sink script.old report.old rates.old printer.old)
         (streams_of S.Source K.Sink R.Source P.Sink script.new report.new rates.new printer.new) }
     ensures never_stops { result ≢ SideStatus.Stopped }
-    ensures ends { EndsSide ⟦<StatementDesk as line_extensions::Desk>⟧ (codes "statement") result (map string_bytes words.now)
+    ensures ends { EndsSide ⟦<StatementDesk as line_extensions::Extension>⟧ (codes "statement") result (map string_bytes words.now)
         (streams_of S.Source K.Sink R.Source P.Sink script.old report.old rates.old printer.old)
         (streams_of S.Source K.Sink R.Source P.Sink script.new report.new rates.new printer.new) }
-    ensures completes { CompletesSide ⟦<StatementDesk as line_extensions::Desk>⟧ (codes "statement") result
+    ensures completes { CompletesSide ⟦<StatementDesk as line_extensions::Extension>⟧ (codes "statement") result
         (map string_bytes words.now)
         (streams_of S.Source K.Sink R.Source P.Sink script.old report.old rates.old printer.old)
         (streams_of S.Source K.Sink R.Source P.Sink script.new report.new rates.new printer.new) }

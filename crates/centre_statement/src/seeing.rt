@@ -2,9 +2,9 @@
 ghost use Rattle.std.specs.Prelude.{◌≡◌, Some};
 ghost use Rattle.centre_statement.specs.Desk.{view_of, noted_by, noted, seen_entry, seen, fresh};
 
+use crate::answer::Answer;
 use crate::change::{Change, change_in, left_after};
 use crate::desk::{MOST_MOVEMENTS, StatementDesk};
-use crate::said::Said;
 use crate::watch::Watch;
 use bench_base::ledger::{Commit, Entry};
 use bench_base::numbers::Customer;
@@ -25,7 +25,7 @@ impl StatementDesk {
             balance: 0,
             is_full: false,
             movements: Vec::new(alloc),
-            said: Said::Nothing,
+            said: Answer::Nothing,
         }
     }
 

@@ -13,21 +13,21 @@ use Rattle.nv_store.specs.declared.room.Room.{Room}
 use Rattle.node_acts.specs.RowList.{is_worn, put}
 use Rattle.node_turns.specs.Turns.{sent_in}
 use Rattle.node_turns.specs.declared.turn.Turn.{Turn}
-use Rattle.line_extensions.specs.Deeds.{Done, Skipped, Did}
+use Rattle.line_extensions.specs.Trace.{StepRecord, Skipped, Did}
 use Rattle.line_extensions.specs.Desks.{World, world, Asks, Does}
-use Rattle.line_extensions.specs.SideDeeds.{SideDeed, Plain, Own, Broken}
-use Rattle.line_extensions.specs.declared.desk.Desk.{Ghosts}
-use Rattle.line_extensions.specs.declared.desk.Next.{Next}
-use Rattle.line_extensions.specs.declared.desk.Next.TheVariants.{Step, Say, Stop}
+use Rattle.line_extensions.specs.SideTrace.{SideStep, Plain, Own, Broken}
+use Rattle.line_extensions.specs.declared.extension.Extension.{Ghosts}
+use Rattle.line_extensions.specs.declared.extension.Next.{Next}
+use Rattle.line_extensions.specs.declared.extension.Next.TheVariants.{Step, Say, Stop}
 use Rattle.line_extensions.specs.Stops.{HasBroken, IsUntouched}
 use Rattle.line_extensions.proofs.Lines.{BrokenLast}
 use Rattle.line_extensions.proofs.Stores.{Goes, Breaks, Ends, goes_rests, goes_same, goes_on, breaks_later, breaks_before, came_by}
 use Rattle.row_store.specs.Commits.{CommitsRow}
-use Rattle.host_departments.specs.Answers.{Asked, Answer, IsTold, IsCommitted, IsTakenIn, IsLimited, IsSent, IsAssignTold, ByQuota, IsAnswered, CellCommit, IsCutJob, AreDone, IsOwnTold, IsOwnCut, AreAnswered}
+use Rattle.host_departments.specs.Answers.{Asked, Answered, IsTold, IsCommitted, IsTakenIn, IsLimited, IsSent, IsAssignTold, ByQuota, IsAnswered, CellCommit, IsCutJob, AreDone, IsOwnTold, IsOwnCut, AreAnswered}
 use Rattle.host_departments.specs.Heard.{IsTaken}
 use Rattle.host_departments.specs.Courses.{Either, Follows, Says, ByFailed, Tries, Sends, Assigns, AssignsBy, SpentBy, Begins, Takes, TakesBy, Hears, GoesOn}
 use Rattle.host_departments.specs.DepartmentLines.{IsLine}
-use Rattle.host_departments.specs.DepartmentsDesk.{departments_desk}
+use Rattle.host_departments.specs.DepartmentsExtension.{departments_desk}
 use Rattle.host_departments.specs.Kept.{rows_in}
 use Rattle.host_departments.specs.Payload.{decoded, spelled}
 use Rattle.host_departments.specs.Rows.{Rows, quota, spent, first_cell}
@@ -39,12 +39,12 @@ use Rattle.host_departments.specs.declared.row.DepartmentLine.{DepartmentLine}
 use Rattle.host_departments.specs.declared.row.DepartmentLine.TheVariants.{Quota, Assign, Spent, Print}
 use Rattle.host_departments.specs.declared.row.DepartmentRow.{DepartmentRow}
 use Rattle.host_departments.specs.declared.row.DepartmentRow.TheVariants as row
-use Rattle.host_departments.specs.declared.said.Said.{Said}
-use Rattle.host_departments.specs.declared.said.Said.TheVariants as said
+use Rattle.host_departments.specs.declared.answer.Answer.{Answer}
+use Rattle.host_departments.specs.declared.answer.Answer.TheVariants as answers
 use Rattle.line_extensions.proofs.Wanting.{no_step, no_say, step_event, ends_at}
 
 -- the step was done, and this is its turn
-abbrev pub Tells : {B : Type 0} → (B → B → Done → Turn → Type 0) → Done → Turn → Type 0
+abbrev pub Tells : {B : Type 0} → (B → B → StepRecord → Turn → Type 0) → StepRecord → Turn → Type 0
 Tells {B} Steps d turn = (s t : B) × Steps s t d turn
 
 abbrev commit_of : ℕ → DepartmentRow → CellCommit
@@ -76,14 +76,14 @@ module _ {N : Type 0} {g : nv.Ghosts N} (nested : (s : N) → g.tells → Nested
   rests_went old new rests = goes_rests g decoded 12 CELLS (view_of old) (view_of new) rests.failed (untouched old new rests)
 
   -- how a commit came out: it was done, or its cell was worn; or it broke off
-  abbrev CameOut : ℕ → DepartmentRow → Said → Departments N g → Next → Departments N g → Type 0
+  abbrev CameOut : ℕ → DepartmentRow → Answer → Departments N g → Next → Departments N g → Type 0
   CameOut k x meant old next new =
       ((next ≡ Say) × Went old new
       × (((is_worn (rows_of old) k ≡ false) × (said_of new ≡ meant) × (rows_of new ≡ put (rows_of old) k x))
-      ⊎ ((is_worn (rows_of old) k ≡ true) × (said_of new ≡ said.Worn) × (rows_of new ≡ rows_of old))))
+      ⊎ ((is_worn (rows_of old) k ≡ true) × (said_of new ≡ answers.Worn) × (rows_of new ≡ rows_of old))))
       ⊎ ((next ≡ Stop) × Failed (commit_of k x) old new × (rows_of new ≡ rows_of old))
 
-  came_out : (k : ℕ) (x : DepartmentRow) (meant : Said) (old : Departments N g) (next : Next) (new : Departments N g) → has_failed old ≡ false → (result : Result (Unit {0}) StoreFail)
+  came_out : (k : ℕ) (x : DepartmentRow) (meant : Answer) (old : Departments N g) (next : Next) (new : Departments N g) → has_failed old ≡ false → (result : Result (Unit {0}) StoreFail)
       → CommitsRow g.tells decoded spelled 12 k x (store_of old) (store_of new) result → has_failed new ≡ ends_failed result → Follows result meant (said_of new) next → CameOut k x meant old next new
   came_out k x meant old next new works (Ok u) did failed follows =
       let went = came_by g decoded 12 CELLS spelled nested (commit_of k x) (view_of old) (view_of new) old.cells works (Ok u) did failed in
@@ -97,7 +97,7 @@ module _ {N : Type 0} {g : nv.Ghosts N} (nested : (s : N) → g.tells → Nested
       inr (follows, came_by g decoded 12 CELLS spelled nested (commit_of k x) (view_of old) (view_of new) old.cells works (Err fail.Fault) did failed, did.stays)
   came_out k x meant old next new works (Err fail.Failed) did failed follows = absurd (did.not_failed refl)
 
-  tried : (k : ℕ) (x : DepartmentRow) (meant : Said) (old : Departments N g) (next : Next) (new : Departments N g) → Tries k x meant old next new → CameOut k x meant old next new
+  tried : (k : ℕ) (x : DepartmentRow) (meant : Answer) (old : Departments N g) (next : Next) (new : Departments N g) → Tries k x meant old next new → CameOut k x meant old next new
   tried k x meant old next new did = by_failed (has_failed old) refl did
     where
       by_failed : (b : Bool) → has_failed old ≡ b → ByFailed b k x meant old next new → CameOut k x meant old next new
@@ -105,60 +105,60 @@ module _ {N : Type 0} {g : nv.Ghosts N} (nested : (s : N) → g.tells → Nested
           inr (did.0, breaks_before g decoded 12 CELLS (commit_of k x) (view_of old) (view_of new) is did.1.failed (untouched old new did.1), rests_rows old new did.1)
       by_failed false is did = came_out k x meant old next new is did.result did.commits did.failed did.follows
 
-  module _ {B : Type 0} (Steps : B → B → Done → Turn → Type 0) where
+  module _ {B : Type 0} (Steps : B → B → StepRecord → Turn → Type 0) where
     module _ (new m : World B (Departments N g)) (same : new ≡ m) where
       desk_is : new.desk ≡ m.desk
       desk_is = ap (λ (w : World B (Departments N g)). w.desk) same
 
-      texts_by : (answer : Said) → said_of m.desk ≡ answer → said_texts (said_of new.desk) ≡ said_texts answer
-      texts_by answer is = ap (λ (k : Departments N g). said_texts (said_of k)) desk_is ∙ ap (λ (s : Said). said_texts s) is
+      texts_by : (answer : Answer) → said_of m.desk ≡ answer → said_texts (said_of new.desk) ≡ said_texts answer
+      texts_by answer is = ap (λ (k : Departments N g). said_texts (said_of k)) desk_is ∙ ap (λ (s : Answer). said_texts s) is
 
       rows_by : (rows : Rows) → rows_of m.desk ≡ rows → rows_of new.desk ≡ rows
       rows_by rows is = ap (λ (k : Departments N g). rows_of k) desk_is ∙ is
 
     -- the answer that a desk shows, to what was asked
-    abbrev answer_of : List Asked → Departments N g → Answer
+    abbrev answer_of : List Asked → Departments N g → Answered
     answer_of asked desk = record { asked = asked; texts = said_texts (said_of desk); after = rows_of desk }
 
     -- no more was done
-    abbrev Rest : List Done → World B (Departments N g) → World B (Departments N g) → Type 0
+    abbrev Rest : List StepRecord → World B (Departments N g) → World B (Departments N g) → Type 0
     Rest rest m new = (rest ≡ []) × (new ≡ m)
 
     -- nothing was asked
-    unasked_done : (s : B) (desk : Departments N g) (steps : List Done) (new : World B (Departments N g)) → Rest steps (world s desk) new → AreDone Steps s steps [] new.scene
-    unasked_done s desk steps new rest = subst (λ (l : List Done). AreDone Steps s l [] new.scene) (sym rest.0) (ap (λ (w : World B (Departments N g)). w.scene) rest.1)
+    unasked_done : (s : B) (desk : Departments N g) (steps : List StepRecord) (new : World B (Departments N g)) → Rest steps (world s desk) new → AreDone Steps s steps [] new.scene
+    unasked_done s desk steps new rest = subst (λ (l : List StepRecord). AreDone Steps s l [] new.scene) (sym rest.0) (ap (λ (w : World B (Departments N g)). w.scene) rest.1)
 
     -- the one step was done
-    asked_done : (s : B) (d : Done) (j : ℕ) (turn : Turn) (rest : List Done) (m new : World B (Departments N g)) → d.event ≡ ev.Send j → Steps s m.scene d turn → Rest rest m new
+    asked_done : (s : B) (d : StepRecord) (j : ℕ) (turn : Turn) (rest : List StepRecord) (m new : World B (Departments N g)) → d.event ≡ ev.Send j → Steps s m.scene d turn → Rest rest m new
         → AreDone Steps s (d ∷ rest) (record { event = ev.Send j; turn = turn } ∷ []) new.scene
     asked_done s d j turn rest m new event did is =
-        (m.scene, event, did, subst (λ (l : List Done). AreDone Steps m.scene l [] new.scene) (sym is.0) (ap (λ (w : World B (Departments N g)). w.scene) is.1))
+        (m.scene, event, did, subst (λ (l : List StepRecord). AreDone Steps m.scene l [] new.scene) (sym is.0) (ap (λ (w : World B (Departments N g)). w.scene) is.1))
 
     -- and the departments went on from these
-    abbrev Ended : Departments N g → List Done → World B (Departments N g) → World B (Departments N g) → Type 0
+    abbrev Ended : Departments N g → List StepRecord → World B (Departments N g) → World B (Departments N g) → Type 0
     Ended from rest m new = Rest rest m new × Went from new.desk
 
-    ended : (from : Departments N g) (rest : List Done) (m new : World B (Departments N g)) → Rest rest m new → Went from m.desk → Ended from rest m new
+    ended : (from : Departments N g) (rest : List StepRecord) (m new : World B (Departments N g)) → Rest rest m new → Went from m.desk → Ended from rest m new
     ended from rest m new is went = (is, subst (λ (w : World B (Departments N g)). Went from w.desk) (sym is.1) went)
 
-    says_ended : (answer : Said) (from : Departments N g) (m new : World B (Departments N g)) (more : Next) (rest : List Done) → Asks (departments_desk g) Steps m new more rest Say → Says answer from more m.desk → Ended from rest m new
+    says_ended : (answer : Answer) (from : Departments N g) (m new : World B (Departments N g)) (more : Next) (rest : List StepRecord) → Asks (departments_desk g) Steps m new more rest Say → Says answer from more m.desk → Ended from rest m new
     says_ended answer from m new more rest asks says =
         let end = ends_at (departments_desk g) Steps m new more rest Say asks (inl says.ends) in ended from rest m new (end.0, end.2) (rests_went from m.desk says.rests)
 
     -- the commit came out
-    committed : (k : ℕ) (x : DepartmentRow) (meant : Said) (text : List ℕ) → said_texts meant ≡ text ∷ [] → (from : Departments N g) (m new : World B (Departments N g)) (more : Next) (rest : List Done)
+    committed : (k : ℕ) (x : DepartmentRow) (meant : Answer) (text : List ℕ) → said_texts meant ≡ text ∷ [] → (from : Departments N g) (m new : World B (Departments N g)) (more : Next) (rest : List StepRecord)
         → (asked : List Asked) → Asks (departments_desk g) Steps m new more rest Say → CameOut k x meant from more m.desk → Ended from rest m new × IsCommitted k x text (rows_of from) (answer_of asked new.desk)
     committed k x meant text texts from m new more rest asked asks (inl (next, went, inl (fresh, now, after))) =
         let end = ends_at (departments_desk g) Steps m new more rest Say asks (inl next) in
         (ended from rest m new (end.0, end.2) went, inr (fresh, texts_by new m end.2 meant now ∙ texts, rows_by new m end.2 (put (rows_of from) k x) after))
     committed k x meant text texts from m new more rest asked asks (inl (next, went, inr (worn, now, after))) =
         let end = ends_at (departments_desk g) Steps m new more rest Say asks (inl next) in
-        (ended from rest m new (end.0, end.2) went, inl (worn, texts_by new m end.2 said.Worn now, rows_by new m end.2 (rows_of from) after))
+        (ended from rest m new (end.0, end.2) went, inl (worn, texts_by new m end.2 answers.Worn now, rows_by new m end.2 (rows_of from) after))
     committed k x meant text texts from m new more rest asked asks (inr (next, failed, after)) =
         let end = ends_at (departments_desk g) Steps m new more rest Say asks (inr next) in absurd (no_say more next end.1)
 
     -- the commit broke off
-    cut_off : (k : ℕ) (x : DepartmentRow) (meant : Said) (from : Departments N g) (m new : World B (Departments N g)) (more : Next) (rest : List Done)
+    cut_off : (k : ℕ) (x : DepartmentRow) (meant : Answer) (from : Departments N g) (m new : World B (Departments N g)) (more : Next) (rest : List StepRecord)
         → Asks (departments_desk g) Steps m new more rest Stop → CameOut k x meant from more m.desk → Rest rest m new × (rows_of new.desk ≡ rows_of from) × Failed (commit_of k x) from new.desk
     cut_off k x meant from m new more rest asks (inl (next, went, out)) =
         let end = ends_at (departments_desk g) Steps m new more rest Stop asks (inl next) in absurd (no_say Stop refl (sym (end.1 ∙ next)))
@@ -168,20 +168,20 @@ module _ {N : Type 0} {g : nv.Ghosts N} (nested : (s : N) → g.tells → Nested
 
     -- == after the message ==
 
-    module _ (d j q : ℕ) (mid : Departments N g) (limit : quota (rows_of mid) d ≡ Some q) (m new : World B (Departments N g)) (more : Next) (rest : List Done) (asked : List Asked) where
+    module _ (d j q : ℕ) (mid : Departments N g) (limit : quota (rows_of mid) d ≡ Some q) (m new : World B (Departments N g)) (more : Next) (rest : List StepRecord) (asked : List Asked) where
       -- to its answer
       module _ (asks : Asks (departments_desk g) Steps m new more rest Say) where
         took : (p left : ℕ) → TakesBy d j p left mid more m.desk → Ended mid rest m new × IsLimited d j p left (rows_of mid) (answer_of asked new.desk)
         took p left did = by_test (nat_lt left p) did
           where
-            by_test : (b : Bool) → Either b (Says (said.OverQuota left) mid more m.desk) (Takes d j p left mid more m.desk)
+            by_test : (b : Bool) → Either b (Says (answers.OverQuota left) mid more m.desk) (Takes d j p left mid more m.desk)
                 → Ended mid rest m new × Either b ((said_texts (said_of new.desk) ≡ numbered (codes "refused dept quota") left ∷ []) × (rows_of new.desk ≡ rows_of mid)) (IsTakenIn d j p left (rows_of mid) (answer_of asked new.desk))
             by_test true says =
                 let end = ends_at (departments_desk g) Steps m new more rest Say asks (inl says.ends) in
-                (says_ended (said.OverQuota left) mid m new more rest asks says, (texts_by new m end.2 (said.OverQuota left) says.answers, rows_by new m end.2 (rows_of mid) (rests_rows mid m.desk says.rests)))
+                (says_ended (answers.OverQuota left) mid m new more rest asks says, (texts_by new m end.2 (answers.OverQuota left) says.answers, rows_by new m end.2 (rows_of mid) (rests_rows mid m.desk says.rests)))
             by_test false takes =
-                let out = committed (first_cell d + takes.place) (row.Job j p) (said.Assigned j d (left - p)) (assigned_text j d (left - p)) refl mid m new more rest asked asks
-                (tried (first_cell d + takes.place) (row.Job j p) (said.Assigned j d (left - p)) mid more m.desk takes.tries) in
+                let out = committed (first_cell d + takes.place) (row.Job j p) (answers.Assigned j d (left - p)) (assigned_text j d (left - p)) refl mid m new more rest asked asks
+                (tried (first_cell d + takes.place) (row.Job j p) (answers.Assigned j d (left - p)) mid more m.desk takes.tries) in
                 (out.0, record { place = takes.place; jobs = takes.jobs; room = takes.room; is = out.1 })
 
         heard : (turn : Turn) → Hears d j turn.reply (sent_in turn.entries) mid more m.desk → asked ≡ record { event = ev.Send j; turn = turn } ∷ []
@@ -192,25 +192,25 @@ module _ {N : Type 0} {g : nv.Ghosts N} (nested : (s : N) → g.tells → Nested
             (out.0, record { turn = turn; only = only; did = inl (did.0, did.1, out.1) })
         heard turn (inr did) only =
             let end = ends_at (departments_desk g) Steps m new more rest Say asks (inl did.1.ends) in (
-              says_ended (said.Sent turn.reply) mid m new more rest asks did.1,
-              record { turn = turn; only = only; did = inr (did.0, texts_by new m end.2 (said.Sent turn.reply) did.1.answers, rows_by new m end.2 (rows_of mid) (rests_rows mid m.desk did.1.rests)) },
+              says_ended (answers.Sent turn.reply) mid m new more rest asks did.1,
+              record { turn = turn; only = only; did = inr (did.0, texts_by new m end.2 (answers.Sent turn.reply) did.1.answers, rows_by new m end.2 (rows_of mid) (rests_rows mid m.desk did.1.rests)) },
             )
 
       -- to its end by a commit that failed
       module _ (asks : Asks (departments_desk g) Steps m new more rest Stop) where
-        not_said : (answer : Said) → Says answer mid more m.desk → ⊥
+        not_said : (answer : Answer) → Says answer mid more m.desk → ⊥
         not_said answer says = let end = ends_at (departments_desk g) Steps m new more rest Stop asks (inl says.ends) in no_say Stop refl (sym (end.1 ∙ says.ends))
 
         abbrev IsCutHere : Type 0
         IsCutHere = Rest rest m new × (rows_of new.desk ≡ rows_of mid) × (c : CellCommit) × Failed c mid new.desk × IsCutJob d j q (rows_of mid) asked c
 
         took_none : (turn : Turn) → asked ≡ record { event = ev.Send j; turn = turn } ∷ [] → (p : ℕ) → IsTaken j turn.reply (sent_in turn.entries) p → (b : Bool) → nat_lt (q - spent (rows_of mid) d) p ≡ b
-            → Either b (Says (said.OverQuota (q - spent (rows_of mid) d)) mid more m.desk) (Takes d j p (q - spent (rows_of mid) d) mid more m.desk) → IsCutHere
-        took_none turn only p taken true is says = absurd (not_said (said.OverQuota (q - spent (rows_of mid) d)) says)
+            → Either b (Says (answers.OverQuota (q - spent (rows_of mid) d)) mid more m.desk) (Takes d j p (q - spent (rows_of mid) d) mid more m.desk) → IsCutHere
+        took_none turn only p taken true is says = absurd (not_said (answers.OverQuota (q - spent (rows_of mid) d)) says)
         took_none turn only p taken false is takes =
             let left = q - spent (rows_of mid) d in
-            let out = cut_off (first_cell d + takes.place) (row.Job j p) (said.Assigned j d (left - p)) mid m new more rest asks
-            (tried (first_cell d + takes.place) (row.Job j p) (said.Assigned j d (left - p)) mid more m.desk takes.tries) in (
+            let out = cut_off (first_cell d + takes.place) (row.Job j p) (answers.Assigned j d (left - p)) mid m new more rest asks
+            (tried (first_cell d + takes.place) (row.Job j p) (answers.Assigned j d (left - p)) mid more m.desk takes.tries) in (
               out.0,
               out.1,
               commit_of (first_cell d + takes.place) (row.Job j p),
@@ -222,39 +222,39 @@ module _ {N : Type 0} {g : nv.Ghosts N} (nested : (s : N) → g.tells → Nested
         heard_none turn only (inl did) =
             let same : did.2.limit ≡ q = same_Some did.2.limit q (sym did.2.is ∙ limit) in
             took_none turn only did.0 did.1 (nat_lt (q - spent (rows_of mid) d) did.0) refl (subst (λ (n : ℕ). TakesBy d j did.0 (n - spent (rows_of mid) d) mid more m.desk) same did.2.takes)
-        heard_none turn only (inr did) = absurd (not_said (said.Sent turn.reply) did.1)
+        heard_none turn only (inr did) = absurd (not_said (answers.Sent turn.reply) did.1)
 
     -- the message of a job was asked for
-    sent_told : (d j q : ℕ) (mid : Departments N g) → quota (rows_of mid) d ≡ Some q → said_of mid ≡ said.Sending d j → (s : B) (new : World B (Departments N g)) (steps : List Done)
+    sent_told : (d j q : ℕ) (mid : Departments N g) → quota (rows_of mid) d ≡ Some q → said_of mid ≡ answers.Sending d j → (s : B) (new : World B (Departments N g)) (steps : List StepRecord)
         → Asks (departments_desk g) Steps (world s mid) new (Step (ev.Send j)) steps Say
         → (asked : List Asked) × AreDone Steps s steps asked new.scene × Went mid new.desk × IsSent d j q (rows_of mid) (answer_of asked new.desk)
     sent_told d j q mid limit waits s new [] asks = absurd (no_step (Step (ev.Send j)) (inl (sym asks.0)) tt)
     sent_told d j q mid limit waits s new (x ∷ rest) asks =
         let turn = asks.2.turn in
-        let hears : Hears d j turn.reply (sent_in turn.entries) mid asks.1 asks.0.desk = subst (λ (t : Said). GoesOn t turn.reply (sent_in turn.entries) mid asks.1 asks.0.desk) waits asks.2.goes in
+        let hears : Hears d j turn.reply (sent_in turn.entries) mid asks.1 asks.0.desk = subst (λ (t : Answer). GoesOn t turn.reply (sent_in turn.entries) mid asks.1 asks.0.desk) waits asks.2.goes in
         let event : x.event ≡ ev.Send j = sym (ap (λ (n : Next). step_event x.event n) asks.2.asks) in
         let out = heard d j q mid limit asks.0 new asks.1 rest (record { event = ev.Send j; turn = turn } ∷ []) asks.3 turn hears refl in
         (record { event = ev.Send j; turn = turn } ∷ [], asked_done s x j turn rest asks.0 new event asks.2.did out.0.0, out.0.1, out.1)
 
-    sent_cut : (d j q : ℕ) (mid : Departments N g) → quota (rows_of mid) d ≡ Some q → said_of mid ≡ said.Sending d j → (s : B) (new : World B (Departments N g)) (steps : List Done)
+    sent_cut : (d j q : ℕ) (mid : Departments N g) → quota (rows_of mid) d ≡ Some q → said_of mid ≡ answers.Sending d j → (s : B) (new : World B (Departments N g)) (steps : List StepRecord)
         → Asks (departments_desk g) Steps (world s mid) new (Step (ev.Send j)) steps Stop
         → (rows_of new.desk ≡ rows_of mid) × (asked : List Asked) × AreDone Steps s steps asked new.scene × (c : CellCommit) × Failed c mid new.desk × IsCutJob d j q (rows_of mid) asked c
     sent_cut d j q mid limit waits s new [] asks = absurd (no_step (Step (ev.Send j)) (inr (sym asks.0)) tt)
     sent_cut d j q mid limit waits s new (x ∷ rest) asks =
         let turn = asks.2.turn in
-        let hears : Hears d j turn.reply (sent_in turn.entries) mid asks.1 asks.0.desk = subst (λ (t : Said). GoesOn t turn.reply (sent_in turn.entries) mid asks.1 asks.0.desk) waits asks.2.goes in
+        let hears : Hears d j turn.reply (sent_in turn.entries) mid asks.1 asks.0.desk = subst (λ (t : Answer). GoesOn t turn.reply (sent_in turn.entries) mid asks.1 asks.0.desk) waits asks.2.goes in
         let event : x.event ≡ ev.Send j = sym (ap (λ (n : Next). step_event x.event n) asks.2.asks) in
         let out = heard_none d j q mid limit asks.0 new asks.1 rest (record { event = ev.Send j; turn = turn } ∷ []) asks.3 turn refl hears in
         (out.1, record { event = ev.Send j; turn = turn } ∷ [], asked_done s x j turn rest asks.0 new event asks.2.did out.0, out.2, out.3, out.4)
 
-    module _ (old new : World B (Departments N g)) (first : Next) (desk : Departments N g) (steps : List Done) where
+    module _ (old new : World B (Departments N g)) (first : Next) (desk : Departments N g) (steps : List StepRecord) where
       -- == to its answer ==
 
       module _ (asks : Asks (departments_desk g) Steps (world old.scene desk) new first steps Say) where
         abbrev IsOwn : DepartmentLine → Type 0
         IsOwn own = IsOwnTold Steps own (rows_of old.desk) old.scene steps (said_texts (said_of new.desk)) new.scene (rows_of new.desk)
 
-        abbrev shown : Answer
+        abbrev shown : Answered
         shown = answer_of [] new.desk
 
         -- nothing was asked, and this was answered
@@ -262,7 +262,7 @@ module _ {N : Type 0} {g : nv.Ghosts N} (nested : (s : N) → g.tells → Nested
         unasked own line end answered = (record { line = line; asked = []; done = unasked_done old.scene desk steps new end.0; answered = answered }, end.1)
 
         -- where it says its answer at once
-        says_told : (answer : Said) (text : List ℕ) → said_texts answer ≡ text ∷ [] → Says answer old.desk first desk → Ended old.desk steps (world old.scene desk) new × IsTold text (rows_of old.desk) shown
+        says_told : (answer : Answer) (text : List ℕ) → said_texts answer ≡ text ∷ [] → Says answer old.desk first desk → Ended old.desk steps (world old.scene desk) new × IsTold text (rows_of old.desk) shown
         says_told answer text texts says =
             let end = ends_at (departments_desk g) Steps (world old.scene desk) new first steps Say asks (inl says.ends) in (
               says_ended answer old.desk (world old.scene desk) new first steps asks says,
@@ -273,13 +273,13 @@ module _ {N : Type 0} {g : nv.Ghosts N} (nested : (s : N) → g.tells → Nested
               },
             )
 
-        quota_told : (d q : ℕ) (b : Bool) → Either b (Says (said.Below (spent (rows_of old.desk) d)) old.desk first desk) (Tries (d - 1) (row.Quota q) (said.Quota d q) old.desk first desk)
+        quota_told : (d q : ℕ) (b : Bool) → Either b (Says (answers.Below (spent (rows_of old.desk) d)) old.desk first desk) (Tries (d - 1) (row.Quota q) (answers.Quota d q) old.desk first desk)
             → Ended old.desk steps (world old.scene desk) new × Either b (IsTold (numbered (codes "refused dept below spent") (spent (rows_of old.desk) d)) (rows_of old.desk) shown)
             ((shown.asked ≡ []) × IsCommitted (d - 1) (row.Quota q) (quota_text d q) (rows_of old.desk) shown)
-        quota_told d q true says = says_told (said.Below (spent (rows_of old.desk) d)) (numbered (codes "refused dept below spent") (spent (rows_of old.desk) d)) refl says
+        quota_told d q true says = says_told (answers.Below (spent (rows_of old.desk) d)) (numbered (codes "refused dept below spent") (spent (rows_of old.desk) d)) refl says
         quota_told d q false tries =
-            let out = committed (d - 1) (row.Quota q) (said.Quota d q) (quota_text d q) refl old.desk (world old.scene desk) new first steps [] asks
-            (tried (d - 1) (row.Quota q) (said.Quota d q) old.desk first desk tries) in
+            let out = committed (d - 1) (row.Quota q) (answers.Quota d q) (quota_text d q) refl old.desk (world old.scene desk) new first steps [] asks
+            (tried (d - 1) (row.Quota q) (answers.Quota d q) old.desk first desk tries) in
             (out.0, (refl, out.1))
 
         -- the message of a job
@@ -294,13 +294,13 @@ module _ {N : Type 0} {g : nv.Ghosts N} (nested : (s : N) → g.tells → Nested
         assigns_told : (d j q : ℕ) → quota (rows_of old.desk) d ≡ Some q → Assigns d j old.desk first desk
             → (asked : List Asked) × AreDone Steps old.scene steps asked new.scene × Went old.desk new.desk × IsAssignTold d j q (rows_of old.desk) (answer_of asked new.desk)
         assigns_told d j q limit (inl again) =
-            let out = says_told (said.Again j d) (again_text j d) refl again.1 in
+            let out = says_told (answers.Again j d) (again_text j d) refl again.1 in
             ([], unasked_done old.scene desk steps new out.0.0, out.0.1, inl (again.0, out.1))
         assigns_told d j q limit (inr (not_here, inl taken)) =
-            let out = says_told (said.Taken j) (numbered (codes "refused dept assigned") j) refl taken.1 in
+            let out = says_told (answers.Taken j) (numbered (codes "refused dept assigned") j) refl taken.1 in
             ([], unasked_done old.scene desk steps new out.0.0, out.0.1, inr (not_here, inl (taken.0, out.1)))
         assigns_told d j q limit (inr (not_here, inr (not_there, inl full))) =
-            let out = says_told said.Full (codes "refused dept full") refl full.1 in
+            let out = says_told answers.Full (codes "refused dept full") refl full.1 in
             ([], unasked_done old.scene desk steps new out.0.0, out.0.1, inr (not_here, inr (not_there, inl (full.0, out.1))))
         assigns_told d j q limit (inr (not_here, inr (not_there, inr room))) =
             let out = sends_told d j q limit room.1 in
@@ -309,14 +309,14 @@ module _ {N : Type 0} {g : nv.Ghosts N} (nested : (s : N) → g.tells → Nested
         assign_told : (d j : ℕ) (o : Option ℕ) → quota (rows_of old.desk) d ≡ o → AssignsBy o d j old.desk first desk
             → (asked : List Asked) × AreDone Steps old.scene steps asked new.scene × Went old.desk new.desk × ByQuota o d (rows_of old.desk) (λ q x. IsAssignTold d j q (rows_of old.desk) x) (answer_of asked new.desk)
         assign_told d j None limit says =
-            let out = says_told (said.Unknown d) (numbered (codes "refused dept unknown") d) refl says in
+            let out = says_told (answers.Unknown d) (numbered (codes "refused dept unknown") d) refl says in
             ([], unasked_done old.scene desk steps new out.0.0, out.0.1, out.1)
         assign_told d j (Some q) limit assigns = assigns_told d j q limit assigns
 
         spent_told : (d : ℕ) (o : Option ℕ) → SpentBy o d old.desk first desk
             → Ended old.desk steps (world old.scene desk) new × ByQuota o d (rows_of old.desk) (λ q x. IsTold (spent_text d (spent (rows_of old.desk) d) q) (rows_of old.desk) x) shown
-        spent_told d None says = says_told (said.Unknown d) (numbered (codes "refused dept unknown") d) refl says
-        spent_told d (Some q) says = says_told (said.Spent d (spent (rows_of old.desk) d) q) (spent_text d (spent (rows_of old.desk) d) q) refl says
+        spent_told d None says = says_told (answers.Unknown d) (numbered (codes "refused dept unknown") d) refl says
+        spent_told d (Some q) says = says_told (answers.Spent d (spent (rows_of old.desk) d) q) (spent_text d (spent (rows_of old.desk) d) q) refl says
 
         own_told : (own : DepartmentLine) → IsLine own → Begins old.desk own first desk → IsOwn own × Went old.desk new.desk
         own_told (Quota d q) line begins = let out = quota_told d q (nat_lt q (spent (rows_of old.desk) d)) begins in unasked (Quota d q) line out.0 out.1
@@ -324,24 +324,24 @@ module _ {N : Type 0} {g : nv.Ghosts N} (nested : (s : N) → g.tells → Nested
             let out = assign_told d j (quota (rows_of old.desk) d) refl begins in (record { line = line; asked = out.0; done = out.1; answered = out.3 }, out.2)
         own_told (Spent d) line begins = let out = spent_told d (quota (rows_of old.desk) d) begins in unasked (Spent d) line out.0 out.1
         own_told (Print j) line begins =
-            let out = says_told (said.Unassigned j) (numbered (codes "refused dept unassigned") j) refl begins.1 in
+            let out = says_told (answers.Unassigned j) (numbered (codes "refused dept unassigned") j) refl begins.1 in
             unasked (Print j) line out.0 (begins.0, out.1)
 
       -- == to its end by a commit that failed ==
 
       module _ (asks : Asks (departments_desk g) Steps (world old.scene desk) new first steps Stop) where
-        says_none : (answer : Said) → Says answer old.desk first desk → ⊥
+        says_none : (answer : Answer) → Says answer old.desk first desk → ⊥
         says_none answer says = let end = ends_at (departments_desk g) Steps (world old.scene desk) new first steps Stop asks (inl says.ends) in no_say Stop refl (sym (end.1 ∙ says.ends))
 
         abbrev IsCut : DepartmentLine → Type 0
         IsCut own = (rows_of new.desk ≡ rows_of old.desk) × (c : CellCommit) × Failed c old.desk new.desk × IsOwnCut Steps own (rows_of old.desk) old.scene steps new.scene c
 
         quota_cut : (d q : ℕ) → IsLine (Quota d q) → (b : Bool) → nat_lt q (spent (rows_of old.desk) d) ≡ b
-            → Either b (Says (said.Below (spent (rows_of old.desk) d)) old.desk first desk) (Tries (d - 1) (row.Quota q) (said.Quota d q) old.desk first desk) → IsCut (Quota d q)
-        quota_cut d q line true is says = absurd (says_none (said.Below (spent (rows_of old.desk) d)) says)
+            → Either b (Says (answers.Below (spent (rows_of old.desk) d)) old.desk first desk) (Tries (d - 1) (row.Quota q) (answers.Quota d q) old.desk first desk) → IsCut (Quota d q)
+        quota_cut d q line true is says = absurd (says_none (answers.Below (spent (rows_of old.desk) d)) says)
         quota_cut d q line false is tries =
-            let out = cut_off (d - 1) (row.Quota q) (said.Quota d q) old.desk (world old.scene desk) new first steps asks
-            (tried (d - 1) (row.Quota q) (said.Quota d q) old.desk first desk tries) in (
+            let out = cut_off (d - 1) (row.Quota q) (answers.Quota d q) old.desk (world old.scene desk) new first steps asks
+            (tried (d - 1) (row.Quota q) (answers.Quota d q) old.desk first desk tries) in (
               out.1,
               commit_of (d - 1) (row.Quota q),
               out.2,
@@ -349,9 +349,9 @@ module _ {N : Type 0} {g : nv.Ghosts N} (nested : (s : N) → g.tells → Nested
             )
 
         assigns_cut : (d j q : ℕ) → IsLine (Assign d j) → quota (rows_of old.desk) d ≡ Some q → Assigns d j old.desk first desk → IsCut (Assign d j)
-        assigns_cut d j q line limit (inl again) = absurd (says_none (said.Again j d) again.1)
-        assigns_cut d j q line limit (inr (not_here, inl taken)) = absurd (says_none (said.Taken j) taken.1)
-        assigns_cut d j q line limit (inr (not_here, inr (not_there, inl full))) = absurd (says_none said.Full full.1)
+        assigns_cut d j q line limit (inl again) = absurd (says_none (answers.Again j d) again.1)
+        assigns_cut d j q line limit (inr (not_here, inl taken)) = absurd (says_none (answers.Taken j) taken.1)
+        assigns_cut d j q line limit (inr (not_here, inr (not_there, inl full))) = absurd (says_none answers.Full full.1)
         assigns_cut d j q line limit (inr (not_here, inr (not_there, inr room))) =
             let rows = rests_rows old.desk desk room.1.rests in
             let out = sent_cut d j q desk (ap (λ (r : Rows). quota r d) rows ∙ limit) room.1.waits old.scene new steps
@@ -363,34 +363,34 @@ module _ {N : Type 0} {g : nv.Ghosts N} (nested : (s : N) → g.tells → Nested
             )
 
         assign_cut : (d j : ℕ) → IsLine (Assign d j) → (o : Option ℕ) → quota (rows_of old.desk) d ≡ o → AssignsBy o d j old.desk first desk → IsCut (Assign d j)
-        assign_cut d j line None limit says = absurd (says_none (said.Unknown d) says)
+        assign_cut d j line None limit says = absurd (says_none (answers.Unknown d) says)
         assign_cut d j line (Some q) limit assigns = assigns_cut d j q line limit assigns
 
         spent_cut : (d : ℕ) (o : Option ℕ) → SpentBy o d old.desk first desk → ⊥
-        spent_cut d None says = says_none (said.Unknown d) says
-        spent_cut d (Some q) says = says_none (said.Spent d (spent (rows_of old.desk) d) q) says
+        spent_cut d None says = says_none (answers.Unknown d) says
+        spent_cut d (Some q) says = says_none (answers.Spent d (spent (rows_of old.desk) d) q) says
 
         own_cut : (own : DepartmentLine) → IsLine own → Begins old.desk own first desk → IsCut own
         own_cut (Quota d q) line begins = quota_cut d q line (nat_lt q (spent (rows_of old.desk) d)) refl begins
         own_cut (Assign d j) line begins = assign_cut d j line (quota (rows_of old.desk) d) refl begins
         own_cut (Spent d) line begins = absurd (spent_cut d (quota (rows_of old.desk) d) begins)
-        own_cut (Print j) line begins = absurd (says_none (said.Unassigned j) begins.1)
+        own_cut (Print j) line begins = absurd (says_none (answers.Unassigned j) begins.1)
 
     -- == each line ==
 
     -- what is said of lines: each has its answer; and no commit failed, or one did in the last
-    abbrev AreAll : World B (Departments N g) → List (SideDeed DepartmentLine) → World B (Departments N g) → Type 0
-    AreAll old deeds new =
-        (failed : Option CellCommit) × Ends g decoded 12 CELLS (view_of old.desk) (view_of new.desk) deeds failed
-        × AreAnswered Steps old.scene (rows_of old.desk) deeds new.scene (rows_of new.desk) failed
+    abbrev AreAll : World B (Departments N g) → List (SideStep DepartmentLine) → World B (Departments N g) → Type 0
+    AreAll old trace new =
+        (failed : Option CellCommit) × Ends g decoded 12 CELLS (view_of old.desk) (view_of new.desk) trace failed
+        × AreAnswered Steps old.scene (rows_of old.desk) trace new.scene (rows_of new.desk) failed
 
     -- with a line more, at which none failed
-    with_line : (d : SideDeed DepartmentLine) (old mid new : Departments N g) (rest : List (SideDeed DepartmentLine)) (failed : Option CellCommit) → (HasBroken (d ∷ rest) → HasBroken rest) → (HasBroken rest → HasBroken (d ∷ rest))
+    with_line : (d : SideStep DepartmentLine) (old mid new : Departments N g) (rest : List (SideStep DepartmentLine)) (failed : Option CellCommit) → (HasBroken (d ∷ rest) → HasBroken rest) → (HasBroken rest → HasBroken (d ∷ rest))
         → Went old mid → Ends g decoded 12 CELLS (view_of mid) (view_of new) rest failed → Ends g decoded 12 CELLS (view_of old) (view_of new) (d ∷ rest) failed
     with_line d old mid new rest failed down up went (inl (more, whole, none)) = inl (went_on old mid new went more, λ broke. whole (down broke), none)
     with_line d old mid new rest failed down up went (inr (broke, c, is, breaks)) = inr (up broke, c, is, failed_later c old mid new went breaks)
 
-    pub all_answered : (old new : World B (Departments N g)) (deeds : List (SideDeed DepartmentLine)) → BrokenLast deeds → Does (departments_desk g) Steps old new deeds → AreAll old deeds new
+    pub all_answered : (old new : World B (Departments N g)) (trace : List (SideStep DepartmentLine)) → BrokenLast trace → Does (departments_desk g) Steps old new trace → AreAll old trace new
     all_answered old new [] last did = (
       None,
       inl (went_to old.desk new.desk (ap (λ (w : World B (Departments N g)). w.desk) did), λ broke. broke, refl),
@@ -422,7 +422,7 @@ module _ {N : Type 0} {g : nv.Ghosts N} (nested : (s : N) → g.tells → Nested
         )
     all_answered old new (Broken line own steps ∷ rest) last did =
         let cut = own_cut old did.0 did.1.first did.1.desk steps did.1.asks own did.1.begins.0 did.1.begins.1 in
-        let end : new ≡ did.0 = subst (λ (l : List (SideDeed DepartmentLine)). Does (departments_desk g) Steps did.0 new l) last did.2 in (
+        let end : new ≡ did.0 = subst (λ (l : List (SideStep DepartmentLine)). Does (departments_desk g) Steps did.0 new l) last did.2 in (
           Some cut.1,
           inr (tt, cut.1, refl, subst (λ (w : World B (Departments N g)). Failed cut.1 old.desk w.desk) (sym end) cut.2),
           (
@@ -430,7 +430,7 @@ module _ {N : Type 0} {g : nv.Ghosts N} (nested : (s : N) → g.tells → Nested
             cut.1,
             cut.3,
             refl,
-            subst (λ (l : List (SideDeed DepartmentLine)). AreAnswered Steps did.0.scene (rows_of old.desk) l new.scene (rows_of new.desk) None) (sym last)
+            subst (λ (l : List (SideStep DepartmentLine)). AreAnswered Steps did.0.scene (rows_of old.desk) l new.scene (rows_of new.desk) None) (sym last)
                 (ap (λ (w : World B (Departments N g)). w.scene) end, ap (λ (w : World B (Departments N g)). rows_of w.desk) end ∙ cut.0, refl),
           ),
         )

@@ -8,7 +8,7 @@ use Rattle.bench_base.specs.declared.events.Reply.TheVariants as r
 use Rattle.bench_base.specs.declared.ledger.Entry.{Entry}
 use Rattle.bench_base.specs.declared.ledger.Entry.TheVariants.{Begin}
 use Rattle.bench_base.specs.Ledger.{Ledger, counted}
-use Rattle.bench_base.specs.Replies.{told_by}
+use Rattle.bench_base.specs.Replies.{class_of}
 use Rattle.bench_base.specs.Rules.{todays_rules, editions}
 use Rattle.node_acts.specs.Plans.{after}
 use Rattle.node_acts.specs.RowList.{put}
@@ -26,16 +26,16 @@ use Rattle.send_laws.proofs.Kept.{ordered_entry, ordered_kept}
 use Rattle.send_laws.proofs.Sending.{sent_for}
 use Rattle.bench_abstraction.specs.Tariff.{IsOfTexts}
 use Rattle.bench.specs.Benches.{Nodes}
-use Rattle.line_extensions.specs.Deeds.{Done, Skipped, Did}
-use Rattle.line_extensions.specs.SideDeeds.{SideDeed, Plain, Own, Broken, steps_of}
+use Rattle.line_extensions.specs.Trace.{StepRecord, Skipped, Did}
+use Rattle.line_extensions.specs.SideTrace.{SideStep, Plain, Own, Broken, steps_of}
 use Rattle.line_extensions.specs.Stops.{with_commit}
 use Rattle.script_replay.specs.Chains.{SceneOf, DidEvents}
-use Rattle.script_replay.specs.Deeds.{ledger_by, ledger_after, AreUnforged}
+use Rattle.script_replay.specs.Trace.{ledger_by, ledger_after, AreUnforged}
 use Rattle.script_replay.specs.Run.{Unforged}
 use Rattle.script_replay.specs.Sides.{StepsBy}
 use Rattle.script_replay.specs.Throughout.{StandsFor}
 use Rattle.script_replay.proofs.Chains.{steps_on, stands_then, stands_after}
-use Rattle.host_departments.specs.Answers.{Answer, IsTold, IsCommitted, IsTakenIn, IsSent, IsAssignTold, ByQuota, IsAnswered, CellCommit, IsCutShort, AreDone, AreAnswered}
+use Rattle.host_departments.specs.Answers.{Answered, IsTold, IsCommitted, IsTakenIn, IsSent, IsAssignTold, ByQuota, IsAnswered, CellCommit, IsCutShort, AreDone, AreAnswered}
 use Rattle.host_departments.specs.Courses.{Either}
 use Rattle.host_departments.specs.Heard.{IsTaken, debit_postage, postage_sent}
 use Rattle.host_departments.specs.Holds.{AreBacked}
@@ -90,29 +90,29 @@ begun rows L b k j p is = ordered_entry j p Begin L (b k j p is)
 module _ (τ : Tariff) where
   -- == an order that counts goes on counting ==
 
-  pub kept_by : (H : Ledger) (d : Done) (j a : ℕ) → ordered_postage j (counted H) ≡ Some a → ordered_postage j (counted (ledger_by τ H d)) ≡ Some a
-  kept_by H d j a is = ordered_kept j a (plan τ todays_rules H d.event d.text) (told_by d.reply) H is
+  pub kept_by : (H : Ledger) (d : StepRecord) (j a : ℕ) → ordered_postage j (counted H) ≡ Some a → ordered_postage j (counted (ledger_by τ H d)) ≡ Some a
+  kept_by H d j a is = ordered_kept j a (plan τ todays_rules H d.event d.text) (class_of d.reply) H is
 
-  kept_after : (H : Ledger) (steps : List Done) (j a : ℕ) → ordered_postage j (counted H) ≡ Some a → ordered_postage j (counted (ledger_after τ H steps)) ≡ Some a
+  kept_after : (H : Ledger) (steps : List StepRecord) (j a : ℕ) → ordered_postage j (counted H) ≡ Some a → ordered_postage j (counted (ledger_after τ H steps)) ≡ Some a
   kept_after H [] j a is = is
   kept_after H (d ∷ steps) j a is = kept_after (ledger_by τ H d) steps j a (kept_by H d j a is)
 
   -- == lists of steps ==
 
-  first_unforged : (H : Ledger) (a b : List Done) → AreUnforged τ Unforged H (a ++ b) → AreUnforged τ Unforged H a
+  first_unforged : (H : Ledger) (a b : List StepRecord) → AreUnforged τ Unforged H (a ++ b) → AreUnforged τ Unforged H a
   first_unforged H [] b u = tt
   first_unforged H (d ∷ a) b u = (u.0, first_unforged (ledger_by τ H d) a b u.1)
 
-  rest_unforged : (H : Ledger) (a b : List Done) → AreUnforged τ Unforged H (a ++ b) → AreUnforged τ Unforged (ledger_after τ H a) b
+  rest_unforged : (H : Ledger) (a b : List StepRecord) → AreUnforged τ Unforged H (a ++ b) → AreUnforged τ Unforged (ledger_after τ H a) b
   rest_unforged H [] b u = u
   rest_unforged H (d ∷ a) b u = rest_unforged (ledger_by τ H d) a b u.1
 
-  after_both : (H : Ledger) (a b : List Done) → ledger_after τ (ledger_after τ H a) b ≡ ledger_after τ H (a ++ b)
+  after_both : (H : Ledger) (a b : List StepRecord) → ledger_after τ (ledger_after τ H a) b ≡ ledger_after τ H (a ++ b)
   after_both H [] b = refl
   after_both H (d ∷ a) b = after_both (ledger_by τ H d) a b
 
   module _ (n : Nodes) (texts : IsOfTexts τ) (tells : n.storage.tells) (today : Editions editions) where
-    pub did_events : (s : SceneOf n) (steps : List Done) (asked : List _) (t : SceneOf n) → AreDone (StepsBy n) s steps asked t → DidEvents n s t steps
+    pub did_events : (s : SceneOf n) (steps : List StepRecord) (asked : List _) (t : SceneOf n) → AreDone (StepsBy n) s steps asked t → DidEvents n s t steps
     did_events s [] [] t done = done
     did_events s [] (x ∷ asked) t done = absurd done
     did_events s (d ∷ steps) [] t done = absurd done
@@ -121,7 +121,7 @@ module _ (τ : Tariff) where
     -- == the message of a job ==
 
     -- its postage is that of the job's Ordered
-    heard_order : (s t : SceneOf n) (d : Done) (H : Ledger) (turn : Turn) (j p : ℕ) → StandsFor n τ s.bench H → StepsBy n s t d turn → d.event ≡ ev.Send j → IsTaken j turn.reply (sent_in turn.entries) p
+    heard_order : (s t : SceneOf n) (d : StepRecord) (H : Ledger) (turn : Turn) (j p : ℕ) → StandsFor n τ s.bench H → StepsBy n s t d turn → d.event ≡ ev.Send j → IsTaken j turn.reply (sent_in turn.entries) p
         → ordered_postage j (counted H) ≡ Some p
     heard_order s t d H turn j p stands by event taken =
         let did = by.0 in
@@ -140,21 +140,21 @@ module _ (τ : Tariff) where
         sent.postage ∙ postage
 
     -- and stays so
-    sent_order : (s : SceneOf n) (steps : List Done) (t : SceneOf n) (H : Ledger) (turn : Turn) (j p : ℕ) → StandsFor n τ s.bench H → AreDone (StepsBy n) s steps (record { event = ev.Send j; turn = turn } ∷ []) t
+    sent_order : (s : SceneOf n) (steps : List StepRecord) (t : SceneOf n) (H : Ledger) (turn : Turn) (j p : ℕ) → StandsFor n τ s.bench H → AreDone (StepsBy n) s steps (record { event = ev.Send j; turn = turn } ∷ []) t
         → IsTaken j turn.reply (sent_in turn.entries) p → ordered_postage j (counted (ledger_after τ H steps)) ≡ Some p
     sent_order s [] t H turn j p stands done taken = absurd done
     sent_order s (d ∷ rest) t H turn j p stands done taken = kept_after (ledger_by τ H d) rest j p (kept_by H d j p (heard_order s done.0 d H turn j p stands done.2 done.1 taken))
 
     -- == an own line ==
 
-    module _ (s t : SceneOf n) (rows : Rows) (H : Ledger) (steps : List Done) (stands : StandsFor n τ s.bench H) (b : AreBacked rows H) where
+    module _ (s t : SceneOf n) (rows : Rows) (H : Ledger) (steps : List StepRecord) (stands : StandsFor n τ s.bench H) (b : AreBacked rows H) where
       abbrev Now : Ledger
       Now = ledger_after τ H steps
 
       pub still : AreBacked rows Now
       still k j p is = kept_after H steps j p (b k j p is)
 
-      module _ (a : Answer) (done : AreDone (StepsBy n) s steps a.asked t) where
+      module _ (a : Answered) (done : AreDone (StepsBy n) s steps a.asked t) where
         same : a.after ≡ rows → AreBacked a.after Now
         same is = subst (λ (x : Rows). AreBacked x Now) (sym is) still
 
@@ -186,7 +186,7 @@ module _ (τ : Tariff) where
         assigned d j q (inr (not_here, inr (not_there, inl full))) = same full.1.rests
         assigned d j q (inr (not_here, inr (not_there, inr room))) = sent d j q room.1
 
-        by_quota : (d : ℕ) (o : Option ℕ) (known : ℕ → Answer → Type 0) → ((q : ℕ) → known q a → AreBacked a.after Now) → ByQuota o d rows known a → AreBacked a.after Now
+        by_quota : (d : ℕ) (o : Option ℕ) (known : ℕ → Answered → Type 0) → ((q : ℕ) → known q a → AreBacked a.after Now) → ByQuota o d rows known a → AreBacked a.after Now
         by_quota d None known more told = same told.rests
         by_quota d (Some q) known more did = more q did
 
@@ -209,8 +209,8 @@ module _ (τ : Tariff) where
     abbrev AreAllBacked : Rows → Option CellCommit → Ledger → Type 0
     AreAllBacked rows failed H = AreBacked rows H × IsOrderedCommit failed H
 
-    backed_all : (s : SceneOf n) (rows : Rows) (H : Ledger) (deeds : List (SideDeed DepartmentLine)) (t : SceneOf n) (then : Rows) (failed : Option CellCommit) → StandsFor n τ s.bench H → AreBacked rows H
-        → AreUnforged τ Unforged H (steps_of deeds) → AreAnswered (StepsBy n) s rows deeds t then failed → AreAllBacked then failed (ledger_after τ H (steps_of deeds))
+    backed_all : (s : SceneOf n) (rows : Rows) (H : Ledger) (trace : List (SideStep DepartmentLine)) (t : SceneOf n) (then : Rows) (failed : Option CellCommit) → StandsFor n τ s.bench H → AreBacked rows H
+        → AreUnforged τ Unforged H (steps_of trace) → AreAnswered (StepsBy n) s rows trace t then failed → AreAllBacked then failed (ledger_after τ H (steps_of trace))
     backed_all s rows H [] t then failed stands b u did =
         (subst (λ (x : Rows). AreBacked x H) (sym did.1) b, subst (λ (o : Option CellCommit). IsOrderedCommit o H) (sym did.2) tt)
     backed_all s rows H (Plain (Skipped line) ∷ rest) t then failed stands b u did = backed_all s rows H rest t then failed stands b u did
@@ -232,9 +232,9 @@ module _ (τ : Tariff) where
         (more.0, subst (λ (o : Option CellCommit). IsOrderedCommit o (ledger_after τ (ledger_after τ H steps) (steps_of rest))) (sym did.3) later)
 
     -- WHAT WAS BACKED BEFORE A RUN IS BACKED AFTER IT, also with the commit that failed
-    pub backed_after : (L : Ledger) (s : SceneOf n) (rows : Rows) (deeds : List (SideDeed DepartmentLine)) (t : SceneOf n) (then : Rows) (failed : Option CellCommit) → StandsFor n τ s.bench (Begin ∷ L) → AreBacked rows L
-        → AreUnforged τ Unforged (Begin ∷ L) (steps_of deeds) → AreAnswered (StepsBy n) s rows deeds t then failed
-        → AreBacked then (ledger_after τ (Begin ∷ L) (steps_of deeds)) × AreBacked (with_commit failed then) (ledger_after τ (Begin ∷ L) (steps_of deeds))
-    backed_after L s rows deeds t then failed stands b u did =
-        let both = backed_all s rows (Begin ∷ L) deeds t then failed stands (begun rows L b) u did in
-        (both.0, with_failed then (ledger_after τ (Begin ∷ L) (steps_of deeds)) failed both.0 both.1)
+    pub backed_after : (L : Ledger) (s : SceneOf n) (rows : Rows) (trace : List (SideStep DepartmentLine)) (t : SceneOf n) (then : Rows) (failed : Option CellCommit) → StandsFor n τ s.bench (Begin ∷ L) → AreBacked rows L
+        → AreUnforged τ Unforged (Begin ∷ L) (steps_of trace) → AreAnswered (StepsBy n) s rows trace t then failed
+        → AreBacked then (ledger_after τ (Begin ∷ L) (steps_of trace)) × AreBacked (with_commit failed then) (ledger_after τ (Begin ∷ L) (steps_of trace))
+    backed_after L s rows trace t then failed stands b u did =
+        let both = backed_all s rows (Begin ∷ L) trace t then failed stands (begun rows L b) u did in
+        (both.0, with_failed then (ledger_after τ (Begin ∷ L) (steps_of trace)) failed both.0 both.1)

@@ -6,8 +6,8 @@ use Rattle.std.proofs.lemmas.Bool.Decides.{nat_tests}
 use Rattle.nv_model.specs.declared.nv.Nv as nv
 use Rattle.node_acts.specs.RowList.{put}
 use Rattle.node_turns.specs.declared.turn.Turn.{Turn}
-use Rattle.line_extensions.specs.Deeds.{Done, Skipped, Did}
-use Rattle.line_extensions.specs.SideDeeds.{SideDeed, Plain, Own, Broken}
+use Rattle.line_extensions.specs.Trace.{StepRecord, Skipped, Did}
+use Rattle.line_extensions.specs.SideTrace.{SideStep, Plain, Own, Broken}
 use Rattle.line_extensions.specs.Stops.{with_commit}
 use Rattle.line_extensions.proofs.Lines.{BrokenLast}
 use Rattle.host_departments.specs.Answers.{Asked, CellCommit, IsFree, IsCutShort, AreAnswered}
@@ -55,21 +55,21 @@ module _ (rows : Rows) (sound : IsSound rows) (long : length rows ≡ 1040) (pla
   cut_sound (Spent d) asked c line cut = absurd cut
   cut_sound (Print j) asked c line cut = absurd cut
 
-module _ {B : Type 0} (Steps : B → B → Done → Turn → Type 0) (after : Rows) (sound : IsSound after) (long : length after ≡ 1040) (places : (k j : ℕ) → Keeps after k j → (16 ≤ k) × (k < 1040)) where
+module _ {B : Type 0} (Steps : B → B → StepRecord → Turn → Type 0) (after : Rows) (sound : IsSound after) (long : length after ≡ 1040) (places : (k j : ℕ) → Keeps after k j → (16 ≤ k) × (k < 1040)) where
   -- the line at which a commit failed is the last, so what was kept then is what is kept now
-  pub failed_sound : (s : B) (rows : Rows) (deeds : List (SideDeed DepartmentLine)) (t : B) (failed : Option CellCommit) → BrokenLast deeds → AreAnswered Steps s rows deeds t after failed
+  pub failed_sound : (s : B) (rows : Rows) (trace : List (SideStep DepartmentLine)) (t : B) (failed : Option CellCommit) → BrokenLast trace → AreAnswered Steps s rows trace t after failed
       → IsSound (with_commit failed after)
   failed_sound s rows [] t failed last did = subst (λ (o : Option CellCommit). IsSound (with_commit o after)) (sym did.2) sound
   failed_sound s rows (Plain (Skipped line) ∷ rest) t failed last did = failed_sound s rows rest t failed last did
   failed_sound s rows (Plain (Did line d) ∷ rest) t failed last did = failed_sound did.0 rows rest t failed last did.2
   failed_sound s rows (Own line own steps texts ∷ rest) t failed last did = failed_sound did.0 did.1 rest t failed last did.3
   failed_sound s rows (Broken line own steps ∷ rest) t failed last did =
-      let end = subst (λ (l : List (SideDeed DepartmentLine)). AreAnswered Steps did.0 rows l t after None) last did.4 in
+      let end = subst (λ (l : List (SideStep DepartmentLine)). AreAnswered Steps did.0 rows l t after None) last did.4 in
       let cut : IsCutShort own after did.2.asked did.1 = subst (λ (x : Rows). IsCutShort own x did.2.asked did.1) (sym end.1) did.2.cut in
       subst (λ (o : Option CellCommit). IsSound (with_commit o after)) (sym did.3) (cut_sound after sound long places own did.2.asked did.1 did.2.line cut)
 
 -- so it is of the departments
-pub desk_sound : {N B : Type 0} {g : nv.Ghosts N} (Steps : B → B → Done → Turn → Type 0) (desk : Departments N g) (s : B) (rows : Rows) (deeds : List (SideDeed DepartmentLine)) (t : B) (failed : Option CellCommit)
-    → BrokenLast deeds → AreAnswered Steps s rows deeds t (rows_of desk) failed → IsSound (with_commit failed (rows_of desk))
-desk_sound Steps desk s rows deeds t failed last did =
-    failed_sound Steps (rows_of desk) desk.sound (rows_long desk.room ∙ desk.cells) (λ k j keeps. let place = job_place desk.room desk.filled k j keeps in (place.0, subst (λ (n : ℕ). k < n) desk.cells place.1)) s rows deeds t failed last did
+pub desk_sound : {N B : Type 0} {g : nv.Ghosts N} (Steps : B → B → StepRecord → Turn → Type 0) (desk : Departments N g) (s : B) (rows : Rows) (trace : List (SideStep DepartmentLine)) (t : B) (failed : Option CellCommit)
+    → BrokenLast trace → AreAnswered Steps s rows trace t (rows_of desk) failed → IsSound (with_commit failed (rows_of desk))
+desk_sound Steps desk s rows trace t failed last did =
+    failed_sound Steps (rows_of desk) desk.sound (rows_long desk.room ∙ desk.cells) (λ k j keeps. let place = job_place desk.room desk.filled k j keeps in (place.0, subst (λ (n : ℕ). k < n) desk.cells place.1)) s rows trace t failed last did

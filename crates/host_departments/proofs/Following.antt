@@ -7,14 +7,14 @@ use Rattle.ledger_terms.specs.Editions.{Editions}
 use Rattle.ledger_moves.specs.Tariffs.{Tariff}
 use Rattle.bench_abstraction.specs.Tariff.{IsOfTexts}
 use Rattle.bench.specs.Benches.{Nodes}
-use Rattle.line_extensions.specs.Deeds.{Skipped, Did}
-use Rattle.line_extensions.specs.SideDeeds.{SideDeed, Plain, Own, Broken}
+use Rattle.line_extensions.specs.Trace.{Skipped, Did}
+use Rattle.line_extensions.specs.SideTrace.{SideStep, Plain, Own, Broken}
 use Rattle.script_replay.specs.Chains.{SceneOf}
-use Rattle.script_replay.specs.Deeds.{ledger_by, ledger_after}
+use Rattle.script_replay.specs.Trace.{ledger_by, ledger_after}
 use Rattle.script_replay.specs.Sides.{StepsBy}
 use Rattle.script_replay.specs.Throughout.{StandsFor}
 use Rattle.script_replay.proofs.Chains.{stands_then, stands_after}
-use Rattle.host_departments.specs.Answers.{Answer, IsTold, ByQuota, IsAnswered, CellCommit, AreAnswered}
+use Rattle.host_departments.specs.Answers.{Answered, IsTold, ByQuota, IsAnswered, CellCommit, AreAnswered}
 use Rattle.host_departments.specs.DepartmentLines.{IsLine}
 use Rattle.host_departments.specs.Follows.{TellsOrders, FollowLedger}
 use Rattle.host_departments.specs.Holds.{AreBacked, DepartmentsHold}
@@ -25,7 +25,7 @@ use Rattle.host_departments.specs.declared.row.DepartmentLine.TheVariants.{Quota
 use Rattle.host_departments.proofs.Backing.{begun, kept_by, did_events, still, answered}
 use Rattle.host_departments.proofs.Holding.{departments_hold}
 
-told_orders : (own : DepartmentLine) (rows : Rows) (H : Ledger) (a : Answer) → DepartmentsHold rows H → IsLine own → IsAnswered own rows a → TellsOrders own rows H a.texts
+told_orders : (own : DepartmentLine) (rows : Rows) (H : Ledger) (a : Answered) → DepartmentsHold rows H → IsLine own → IsAnswered own rows a → TellsOrders own rows H a.texts
 told_orders (Quota d q) rows H a holds line answer = tt
 told_orders (Assign d j) rows H a holds line answer = tt
 told_orders (Spent d) rows H a holds line answer = λ q is.
@@ -34,8 +34,8 @@ told_orders (Spent d) rows H a holds line answer = λ q is.
 told_orders (Print j) rows H a holds line answer = tt
 
 module _ (τ : Tariff) (n : Nodes) (texts : IsOfTexts τ) (tells : n.storage.tells) (today : Editions editions) where
-  follow : (s : SceneOf n) (rows : Rows) (H : Ledger) (deeds : List (SideDeed DepartmentLine)) (t : SceneOf n) (then : Rows) (failed : Option CellCommit) → StandsFor n τ s.bench H → AreBacked rows H
-      → (answers : AreAnswered (StepsBy n) s rows deeds t then failed) → FollowLedger (StepsBy n) τ H s rows deeds t then failed answers
+  follow : (s : SceneOf n) (rows : Rows) (H : Ledger) (trace : List (SideStep DepartmentLine)) (t : SceneOf n) (then : Rows) (failed : Option CellCommit) → StandsFor n τ s.bench H → AreBacked rows H
+      → (answers : AreAnswered (StepsBy n) s rows trace t then failed) → FollowLedger (StepsBy n) τ H s rows trace t then failed answers
   follow s rows H [] t then failed stands b did = departments_hold today τ H stands.history rows b
   follow s rows H (Plain (Skipped line) ∷ rest) t then failed stands b did = follow s rows H rest t then failed stands b did
   follow s rows H (Plain (Did line d) ∷ rest) t then failed stands b did = (
@@ -45,7 +45,7 @@ module _ (τ : Tariff) (n : Nodes) (texts : IsOfTexts τ) (tells : n.storage.tel
   follow s rows H (Own line own steps said ∷ rest) t then failed stands b did =
       let told = did.2 in
       let holds = departments_hold today τ H stands.history rows b in
-      let a : Answer = record { asked = told.asked; texts = said; after = did.1 } in (
+      let a : Answered = record { asked = told.asked; texts = said; after = did.1 } in (
         holds,
         told_orders own rows H a holds told.line told.answered,
         λ u.
@@ -61,6 +61,6 @@ module _ (τ : Tariff) (n : Nodes) (texts : IsOfTexts τ) (tells : n.storage.tel
       )
 
   -- from the beginning of a run on
-  pub follow_all : (L : Ledger) (s : SceneOf n) (rows : Rows) (deeds : List (SideDeed DepartmentLine)) (t : SceneOf n) (then : Rows) (failed : Option CellCommit) → StandsFor n τ s.bench (Begin ∷ L)
-      → AreBacked rows L → (answers : AreAnswered (StepsBy n) s rows deeds t then failed) → FollowLedger (StepsBy n) τ (Begin ∷ L) s rows deeds t then failed answers
-  follow_all L s rows deeds t then failed stands b answers = follow s rows (Begin ∷ L) deeds t then failed stands (begun rows L b) answers
+  pub follow_all : (L : Ledger) (s : SceneOf n) (rows : Rows) (trace : List (SideStep DepartmentLine)) (t : SceneOf n) (then : Rows) (failed : Option CellCommit) → StandsFor n τ s.bench (Begin ∷ L)
+      → AreBacked rows L → (answers : AreAnswered (StepsBy n) s rows trace t then failed) → FollowLedger (StepsBy n) τ (Begin ∷ L) s rows trace t then failed answers
+  follow_all L s rows trace t then failed stands b answers = follow s rows (Begin ∷ L) trace t then failed stands (begun rows L b) answers

@@ -7,7 +7,7 @@ use Rattle.node_acts.specs.RowList.{row_at, row_of, is_worn, commits_at}
 use Rattle.node_turns.specs.Turns.{sent_in}
 use Rattle.node_turns.specs.declared.turn.Turn.{Turn}
 use Rattle.script_text.specs.Texts.{text_of}
-use Rattle.host_departments.specs.Answers.{Answer, IsTold, IsCommitted, IsQuotaTold, IsTakenIn, IsLimited, IsSent, IsAssignTold, ByQuota, IsAnswered}
+use Rattle.host_departments.specs.Answers.{Answered, IsTold, IsCommitted, IsQuotaTold, IsTakenIn, IsLimited, IsSent, IsAssignTold, ByQuota, IsAnswered}
 use Rattle.host_departments.specs.Courses.{Either}
 use Rattle.host_departments.specs.Heard.{IsTaken}
 use Rattle.host_departments.specs.Isolation.{IsLineOf, IsSameFor, IsSameHeard, AreSameHeard, AreIsolated}
@@ -26,7 +26,7 @@ use Rattle.host_departments.proofs.Sums.{sum_same}
 abbrev Committed : Bool → List ℕ → List (List ℕ) → Type 0
 Committed worn text texts = ((worn ≡ true) × (texts ≡ codes "worn desk" ∷ [])) ⊎ ((worn ≡ false) × (texts ≡ text ∷ []))
 
-commit_texts : (k : ℕ) (x : DepartmentRow) (text : List ℕ) (rows : Rows) (a : Answer) → IsCommitted k x text rows a → Committed (is_worn rows k) text a.texts
+commit_texts : (k : ℕ) (x : DepartmentRow) (text : List ℕ) (rows : Rows) (a : Answered) → IsCommitted k x text rows a → Committed (is_worn rows k) text a.texts
 commit_texts k x text rows a (inl worn) = inl (worn.0, worn.1)
 commit_texts k x text rows a (inr done) = inr (done.0, done.1)
 
@@ -36,7 +36,7 @@ same_commit worn text ts us (inl a) (inr b) = absurd (true≢false (sym a.0 ∙ 
 same_commit worn text ts us (inr a) (inl b) = absurd (true≢false (sym b.0 ∙ a.0))
 same_commit worn text ts us (inr a) (inr b) = b.1 ∙ sym a.1
 
-same_told : (text : List ℕ) (rows other : Rows) (a b : Answer) → IsTold text rows a → IsTold text other b → b.texts ≡ a.texts
+same_told : (text : List ℕ) (rows other : Rows) (a b : Answered) → IsTold text rows a → IsTold text other b → b.texts ≡ a.texts
 same_told text rows other a b told told' = told'.texts ∙ sym told.texts
 
 one_postage : (j : ℕ) (turn : Turn) (p q : ℕ) → IsTaken j turn.reply (sent_in turn.entries) p → IsTaken j turn.reply (sent_in turn.entries) q → p ≡ q
@@ -77,7 +77,7 @@ module _ (d : ℕ) (rows other : Rows) (same : IsSameFor d rows other) where
     blank = λ lt. same_place n lt ∙ jobs.blank lt;
   }
 
-  module _ (a b : Answer) where
+  module _ (a b : Answered) where
     -- == a quota ==
 
     quota_by : (q s : ℕ) (w : Bool) (t : Bool) → Either t (a.texts ≡ numbered (codes "refused dept below spent") s ∷ []) (Committed w (quota_text d q) a.texts)
@@ -85,7 +85,7 @@ module _ (d : ℕ) (rows other : Rows) (same : IsSameFor d rows other) where
     quota_by q s w true below below' = below' ∙ sym below
     quota_by q s w false did did' = same_commit w (quota_text d q) a.texts b.texts did did'
 
-    quota_texts : (q : ℕ) (x : Answer) (kept : Rows) (t : Bool)
+    quota_texts : (q : ℕ) (x : Answered) (kept : Rows) (t : Bool)
         → Either t (IsTold (numbered (codes "refused dept below spent") (spent kept d)) kept x) ((x.asked ≡ []) × IsCommitted (d - 1) (row.Quota q) (quota_text d q) kept x)
         → Either t (x.texts ≡ numbered (codes "refused dept below spent") (spent kept d) ∷ []) (Committed (is_worn kept (d - 1)) (quota_text d q) x.texts)
     quota_texts q x kept true told = told.texts
@@ -165,7 +165,7 @@ module _ (d : ℕ) (rows other : Rows) (same : IsSameFor d rows other) where
     spent_by None told told' = same_told (numbered (codes "refused dept unknown") d) rows other a b told told'
     spent_by (Some q) told told' = told'.texts ∙ ap (λ (s : ℕ). spent_text d s q ∷ []) same_spent ∙ sym told.texts
 
-  answers_same : (own : DepartmentLine) → IsLineOf d own → (a b : Answer) → IsAnswered own rows a → IsAnswered own other b → AreSameHeard a.asked b.asked → b.texts ≡ a.texts
+  answers_same : (own : DepartmentLine) → IsLineOf d own → (a b : Answered) → IsAnswered own rows a → IsAnswered own other b → AreSameHeard a.asked b.asked → b.texts ≡ a.texts
   answers_same (Quota e q) is a b told told' heard =
       quota_same a b q (subst (λ (n : ℕ). IsQuotaTold n q rows a) is told) (subst (λ (n : ℕ). IsQuotaTold n q other b) is told')
   answers_same (Assign e j) is a b told told' heard =

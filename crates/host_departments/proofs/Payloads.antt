@@ -91,7 +91,7 @@ job_fits k vs x le is =
 
 row_fits : (k : ℕ) (vs : List ℕ) (x : DepartmentRow) → row_from k vs ≡ Some x → IsFit k x
 row_fits k vs x is = elim (cases_Bool (nat_lt k 16)) [
-  | inl front ↦ quota_fits k vs x (is_below k 16 front) (sym (ap (λ (t : Bool). if t then quota_from k vs else job_from k vs) front) ∙ is)
+  | inl prefix ↦ quota_fits k vs x (is_below k 16 prefix) (sym (ap (λ (t : Bool). if t then quota_from k vs else job_from k vs) prefix) ∙ is)
   | inr behind ↦ job_fits k vs x (is_not_below k 16 behind) (sym (ap (λ (t : Bool). if t then quota_from k vs else job_from k vs) behind) ∙ is)
 ]
 

@@ -10,17 +10,17 @@ use Rattle.bench_base.specs.Replies.{MayGet}
 use Rattle.nv_model.specs.declared.nv.Nv as nv
 use Rattle.node_acts.specs.RowList.{put}
 use Rattle.node_turns.specs.declared.turn.Turn.{Turn}
-use Rattle.bench_abstraction.specs.Taken.{as_given, as_given_by, as_scanned_by}
+use Rattle.bench_abstraction.specs.Routing.{as_given, as_given_by, as_scanned_by}
 use Rattle.bench.specs.Benches.{Nodes}
-use Rattle.line_extensions.specs.Deeds.{Done, Skipped, Did}
+use Rattle.line_extensions.specs.Trace.{StepRecord, Skipped, Did}
 use Rattle.line_extensions.specs.Events.{IsLineOf}
-use Rattle.line_extensions.specs.SideDeeds.{SideDeed, Plain, Own, Broken, steps_of}
-use Rattle.host_departments.specs.Answers.{Asked, Answer, IsTold, IsCommitted, IsTakenIn, IsSent, IsAssignTold, ByQuota, IsAnswered, CellCommit, IsCutShort, AreDone, AreAnswered}
+use Rattle.line_extensions.specs.SideTrace.{SideStep, Plain, Own, Broken, steps_of}
+use Rattle.host_departments.specs.Answers.{Asked, Answered, IsTold, IsCommitted, IsTakenIn, IsSent, IsAssignTold, ByQuota, IsAnswered, CellCommit, IsCutShort, AreDone, AreAnswered}
 use Rattle.host_departments.specs.Courses.{Either}
 use Rattle.host_departments.specs.DepartmentLines.{IsLine}
-use Rattle.host_departments.specs.DepartmentsDesk.{departments_desk}
+use Rattle.host_departments.specs.DepartmentsExtension.{departments_desk}
 use Rattle.std.specs.List.{AllByRecursion}
-use Rattle.line_runs.specs.Deeds.{Reads}
+use Rattle.line_runs.specs.Trace.{Reads}
 use Rattle.line_extensions.specs.Desks.{side_lines}
 use Rattle.host_departments.specs.Ran.{AllAssigned}
 use Rattle.script_replay.specs.Chains.{SceneOf}
@@ -73,7 +73,7 @@ print_given pool j (ev.Reconcile d) is = cc
 print_given pool j ev.End is = cc
 
 -- a step that tells of printing is one of `print`
-pub prints_by : (n : Nodes) (s t : SceneOf n) (d : Done) (turn : Turn) → StepsBy n s t d turn → (j : ℕ) → d.reply ≡ r.Printed j → d.event ≡ ev.Print j
+pub prints_by : (n : Nodes) (s t : SceneOf n) (d : StepRecord) (turn : Turn) → StepsBy n s t d turn → (j : ℕ) → d.reply ≡ r.Printed j → d.event ≡ ev.Print j
 prints_by n s t d turn by j is =
     let did = by.0 in
     let reply : did.turn.reply ≡ r.Printed j = sym did.told ∙ is in
@@ -100,7 +100,7 @@ still_assigned rows after stays j is = record {
   has = record { place = is.has.place; inside = is.has.inside; kept = stays is.department is.has.place j is.has.kept };
 }
 
-by_commit : (k : ℕ) (x : DepartmentRow) (text : List ℕ) (rows : Rows) (a : Answer) → Stays rows (put rows k x) → IsCommitted k x text rows a → Stays rows a.after
+by_commit : (k : ℕ) (x : DepartmentRow) (text : List ℕ) (rows : Rows) (a : Answered) → Stays rows (put rows k x) → IsCommitted k x text rows a → Stays rows a.after
 by_commit k x text rows a stays (inl worn) = stays_same rows a.after worn.2
 by_commit k x text rows a stays (inr done) = stays_both rows (put rows k x) a.after stays (stays_same (put rows k x) a.after done.2)
 
@@ -117,17 +117,17 @@ by_job k x rows blank e place i keeps = elim (cases_eq (first_cell e + place) k)
   | inr differs ↦ ap (λ (o : Option DepartmentRow). job_in o) (row_else rows k x (first_cell e + place) differs) ∙ keeps
 ]
 
-quota_stays : (d q : ℕ) (rows : Rows) (a : Answer) → IsDepartment d → (b : Bool) (text : List ℕ)
+quota_stays : (d q : ℕ) (rows : Rows) (a : Answered) → IsDepartment d → (b : Bool) (text : List ℕ)
     → Either b (IsTold text rows a) ((a.asked ≡ []) × IsCommitted (d - 1) (row.Quota q) (quota_text d q) rows a) → Stays rows a.after
 quota_stays d q rows a is true text told = stays_same rows a.after told.rests
 quota_stays d q rows a is false text did = by_commit (d - 1) (row.Quota q) (quota_text d q) rows a (by_quota d q rows is) did.1
 
-limited_stays : (d j p left : ℕ) (rows : Rows) (a : Answer) (b : Bool) (P : Type 0) → Either b (P × (a.after ≡ rows)) (IsTakenIn d j p left rows a) → Stays rows a.after
+limited_stays : (d j p left : ℕ) (rows : Rows) (a : Answered) (b : Bool) (P : Type 0) → Either b (P × (a.after ≡ rows)) (IsTakenIn d j p left rows a) → Stays rows a.after
 limited_stays d j p left rows a true P did = stays_same rows a.after did.1
 limited_stays d j p left rows a false P did =
     by_commit (first_cell d + did.place) (row.Job j p) (assigned_text j d (left - p)) rows a (by_job (first_cell d + did.place) (row.Job j p) rows (did.jobs.blank did.room)) did.is
 
-sent_stays : (d j q : ℕ) (rows : Rows) (a : Answer) (sent : IsSent d j q rows a) → Stays rows a.after
+sent_stays : (d j q : ℕ) (rows : Rows) (a : Answered) (sent : IsSent d j q rows a) → Stays rows a.after
 sent_stays d j q rows a sent = elim sent.did [
   | inl did ↦ limited_stays d j did.0 (q - spent rows d) rows a (nat_lt (q - spent rows d) did.0) (a.texts ≡ numbered (codes "refused dept quota") (q - spent rows d) ∷ []) did.2
   | inr did ↦ stays_same rows a.after did.2
@@ -145,32 +145,32 @@ no_print asked is = subst (λ (l : List Asked). NonePrint l) (sym is) tt
 send_prints_none : (i j : ℕ) → ev.Send i ≡ ev.Print j → ⊥
 send_prints_none i j is = cc
 
-sent_prints_none : (d j q : ℕ) (rows : Rows) (a : Answer) → IsSent d j q rows a → NonePrint a.asked
+sent_prints_none : (d j q : ℕ) (rows : Rows) (a : Answered) → IsSent d j q rows a → NonePrint a.asked
 sent_prints_none d j q rows a sent = subst (λ (l : List Asked). NonePrint l) (sym sent.only) (λ i is. send_prints_none j i is, tt)
 
 -- both of an answer
-abbrev IsCalm : Rows → Answer → Type 0
+abbrev IsCalm : Rows → Answered → Type 0
 IsCalm rows a = Stays rows a.after × NonePrint a.asked
 
-told_calm : (text : List ℕ) (rows : Rows) (a : Answer) → IsTold text rows a → IsCalm rows a
+told_calm : (text : List ℕ) (rows : Rows) (a : Answered) → IsTold text rows a → IsCalm rows a
 told_calm text rows a told = (stays_same rows a.after told.rests, no_print a.asked told.none)
 
-quota_asks_none : (d q : ℕ) (rows : Rows) (a : Answer) (b : Bool) (text : List ℕ)
+quota_asks_none : (d q : ℕ) (rows : Rows) (a : Answered) (b : Bool) (text : List ℕ)
     → Either b (IsTold text rows a) ((a.asked ≡ []) × IsCommitted (d - 1) (row.Quota q) (quota_text d q) rows a) → NonePrint a.asked
 quota_asks_none d q rows a true text told = no_print a.asked told.none
 quota_asks_none d q rows a false text did = no_print a.asked did.0
 
-assign_calm : (d j q : ℕ) (rows : Rows) (a : Answer) → IsAssignTold d j q rows a → IsCalm rows a
+assign_calm : (d j q : ℕ) (rows : Rows) (a : Answered) → IsAssignTold d j q rows a → IsCalm rows a
 assign_calm d j q rows a (inl again) = told_calm (again_text j d) rows a again.1
 assign_calm d j q rows a (inr (not_here, inl taken)) = told_calm (numbered (codes "refused dept assigned") j) rows a taken.1
 assign_calm d j q rows a (inr (not_here, inr (not_there, inl full))) = told_calm (codes "refused dept full") rows a full.1
 assign_calm d j q rows a (inr (not_here, inr (not_there, inr room))) = (sent_stays d j q rows a room.1, sent_prints_none d j q rows a room.1)
 
-by_limit : (o : Option ℕ) (d : ℕ) (rows : Rows) (known : ℕ → Answer → Type 0) (a : Answer) → ((q : ℕ) → known q a → IsCalm rows a) → ByQuota o d rows known a → IsCalm rows a
+by_limit : (o : Option ℕ) (d : ℕ) (rows : Rows) (known : ℕ → Answered → Type 0) (a : Answered) → ((q : ℕ) → known q a → IsCalm rows a) → ByQuota o d rows known a → IsCalm rows a
 by_limit None d rows known a calm told = told_calm (numbered (codes "refused dept unknown") d) rows a told
 by_limit (Some q) d rows known a calm did = calm q did
 
-answer_calm : (own : DepartmentLine) (rows : Rows) (a : Answer) → IsLine own → IsAnswered own rows a → IsCalm rows a
+answer_calm : (own : DepartmentLine) (rows : Rows) (a : Answered) → IsLine own → IsAnswered own rows a → IsCalm rows a
 answer_calm (Quota d q) rows a line did =
     let text = numbered (codes "refused dept below spent") (spent rows d) in
     let b = nat_lt q (spent rows d) in
@@ -188,8 +188,8 @@ cut_prints_none (Print j) rows asked c cut = absurd cut
 
 -- == a script ==
 
-module _ {N : Type 0} (g : nv.Ghosts N) {B : Type 0} (Steps : B → B → Done → Turn → Type 0) (prints : (s t : B) (d : Done) (turn : Turn) → Steps s t d turn → (j : ℕ) → d.reply ≡ r.Printed j → d.event ≡ ev.Print j) where
-  all_stay : (s : B) (rows : Rows) (deeds : List (SideDeed DepartmentLine)) (t : B) (after : Rows) (failed : Option CellCommit) → AreAnswered Steps s rows deeds t after failed → Stays rows after
+module _ {N : Type 0} (g : nv.Ghosts N) {B : Type 0} (Steps : B → B → StepRecord → Turn → Type 0) (prints : (s t : B) (d : StepRecord) (turn : Turn) → Steps s t d turn → (j : ℕ) → d.reply ≡ r.Printed j → d.event ≡ ev.Print j) where
+  all_stay : (s : B) (rows : Rows) (trace : List (SideStep DepartmentLine)) (t : B) (after : Rows) (failed : Option CellCommit) → AreAnswered Steps s rows trace t after failed → Stays rows after
   all_stay s rows [] t after failed did = stays_same rows after did.1
   all_stay s rows (Plain (Skipped line) ∷ rest) t after failed did = all_stay s rows rest t after failed did
   all_stay s rows (Plain (Did line d) ∷ rest) t after failed did = all_stay did.0 rows rest t after failed did.2
@@ -197,19 +197,19 @@ module _ {N : Type 0} (g : nv.Ghosts N) {B : Type 0} (Steps : B → B → Done �
       stays_both rows did.1 after (answer_calm own rows (record { asked = did.2.asked; texts = texts; after = did.1 }) did.2.line did.2.answered).0 (all_stay did.0 did.1 rest t after failed did.3)
   all_stay s rows (Broken line own steps ∷ rest) t after failed did = all_stay did.0 rows rest t after None did.4
 
-  done_assigned : (after : Rows) (s : B) (steps : List Done) (asked : List Asked) (t : B) → AreDone Steps s steps asked t → NonePrint asked → AllAssigned after steps
+  done_assigned : (after : Rows) (s : B) (steps : List StepRecord) (asked : List Asked) (t : B) → AreDone Steps s steps asked t → NonePrint asked → AllAssigned after steps
   done_assigned after s [] [] t done none = tt
   done_assigned after s [] (x ∷ asked) t done none = absurd done
   done_assigned after s (d ∷ steps) [] t done none = absurd done
   done_assigned after s (d ∷ steps) (x ∷ asked) t done none =
       (λ j is. absurd (none.0 j (sym done.1 ∙ prints s done.0 d x.turn done.2 j is)), done_assigned after done.0 steps asked t done.3 none.1)
 
-  both_assigned : (after : Rows) (a b : List Done) → AllAssigned after a → AllAssigned after b → AllAssigned after (a ++ b)
+  both_assigned : (after : Rows) (a b : List StepRecord) → AllAssigned after a → AllAssigned after b → AllAssigned after (a ++ b)
   both_assigned after [] b first second = second
   both_assigned after (d ∷ a) b first second = (first.0, both_assigned after a b first.1 second)
 
-  pub all_printed : (s : B) (rows : Rows) (deeds : List (SideDeed DepartmentLine)) (t : B) (after : Rows) (failed : Option CellCommit) → AllByRecursion (Reads (side_lines (departments_desk g))) deeds
-      → AreAnswered Steps s rows deeds t after failed → AllAssigned after (steps_of deeds)
+  pub all_printed : (s : B) (rows : Rows) (trace : List (SideStep DepartmentLine)) (t : B) (after : Rows) (failed : Option CellCommit) → AllByRecursion (Reads (side_lines (departments_desk g))) trace
+      → AreAnswered Steps s rows trace t after failed → AllAssigned after (steps_of trace)
   all_printed s rows [] t after failed reads did = tt
   all_printed s rows (Plain (Skipped line) ∷ rest) t after failed reads did = all_printed s rows rest t after failed reads.1 did
   all_printed s rows (Plain (Did line d) ∷ rest) t after failed reads did = (

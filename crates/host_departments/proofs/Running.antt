@@ -9,13 +9,13 @@ use Rattle.nv_model.specs.Moments.{Nested}
 use Rattle.ledger_terms.specs.Editions.{Editions}
 use Rattle.ledger_moves.specs.Tariffs.{Tariff}
 use Rattle.bench.specs.Benches.{Nodes, BenchOf}
-use Rattle.line_runs.specs.Deeds.{Reads}
+use Rattle.line_runs.specs.Trace.{Reads}
 use Rattle.line_runs.specs.declared.status.Status.TheVariants as status
 use Rattle.line_runs.specs.declared.status.SideStatus.{SideStatus}
 use Rattle.line_runs.specs.declared.status.SideStatus.TheVariants.{Run}
-use Rattle.line_extensions.specs.Deeds.{Done}
+use Rattle.line_extensions.specs.Trace.{StepRecord}
 use Rattle.line_extensions.specs.Desks.{World, world, side_lines}
-use Rattle.line_extensions.specs.SideDeeds.{SideDeed, steps_of}
+use Rattle.line_extensions.specs.SideTrace.{SideStep, steps_of}
 use Rattle.line_extensions.proofs.Lines.{AtLast}
 use Rattle.line_extensions.proofs.Stores.{Ends, leaves}
 use Rattle.script_replay.specs.Chains.{SceneOf, scene, DidEvents}
@@ -23,7 +23,7 @@ use Rattle.script_replay.specs.Run.{Leaves}
 use Rattle.script_replay.specs.Sides.{StepsBy, DidSide}
 use Rattle.script_replay.specs.Throughout.{IsBetween, StandsFor, Throughout}
 use Rattle.host_departments.specs.Answers.{AreAnswered}
-use Rattle.host_departments.specs.DepartmentsDesk.{departments_desk}
+use Rattle.host_departments.specs.DepartmentsExtension.{departments_desk}
 use Rattle.host_departments.specs.Payload.{decoded}
 use Rattle.host_departments.specs.Ran.{DidDepartments}
 use Rattle.host_departments.specs.Rows.{Rows}
@@ -43,40 +43,40 @@ use Rattle.host_departments.proofs.Showing.{shows_now}
 use Rattle.line_extensions.proofs.Wanting.{desk_left}
 
 -- the first moment of a run
-first_between : (n : Nodes) (τ : Tariff) (L : Ledger) (old new : SceneOf n) (deeds : List Done) (did : DidEvents n old new deeds) → Throughout n τ L old new deeds did → IsBetween n τ old.bench L
+first_between : (n : Nodes) (τ : Tariff) (L : Ledger) (old new : SceneOf n) (trace : List StepRecord) (did : DidEvents n old new trace) → Throughout n τ L old new trace did → IsBetween n τ old.bench L
 first_between n τ L old new [] did all = all
 first_between n τ L old new (d ∷ rest) did all = all.0
 
 module _ {N : Type 0} (n : Nodes) (own : nv.Ghosts N) (nested : (s : N) → own.tells → Nested (own.times s)) (today : Editions editions) (old new : World (SceneOf n) (Departments N own)) (outcome : SideStatus) where
-  pub did_departments : (deeds : List (SideDeed DepartmentLine)) → AllByRecursion (Reads (side_lines (departments_desk own))) deeds → AtLast (departments_desk own) outcome deeds
-      → DidSide n (departments_desk own) old new outcome deeds → DidDepartments n own old new outcome deeds
-  did_departments deeds reads at did =
+  pub did_departments : (trace : List (SideStep DepartmentLine)) → AllByRecursion (Reads (side_lines (departments_desk own))) trace → AtLast (departments_desk own) outcome trace
+      → DidSide n (departments_desk own) old new outcome trace → DidDepartments n own old new outcome trace
+  did_departments trace reads at did =
       let from = world (scene did.begun old.scene.outside) old.desk in
       let same : new.desk ≡ did.behind.desk = desk_left (λ s t. Leaves (Run status.Memory) s t) outcome did.behind new did.leaves in
-      let all = all_answered nested (StepsBy n) from did.behind deeds at.last did.did in
-      let answers : AreAnswered (StepsBy n) from.scene (rows_of old.desk) deeds did.behind.scene (rows_of new.desk) all.0 =
-      subst (λ (r : Rows). AreAnswered (StepsBy n) from.scene (rows_of old.desk) deeds did.behind.scene r all.0) (sym (ap (λ (d : Departments N own). rows_of d) same)) all.2 in
-      let ends : Ends own decoded 12 CELLS (view_of old.desk) (view_of new.desk) deeds all.0 =
-      subst (λ (d : Departments N own). Ends own decoded 12 CELLS (view_of old.desk) (view_of d) deeds all.0) (sym same) all.1 in
+      let all = all_answered nested (StepsBy n) from did.behind trace at.last did.did in
+      let answers : AreAnswered (StepsBy n) from.scene (rows_of old.desk) trace did.behind.scene (rows_of new.desk) all.0 =
+      subst (λ (r : Rows). AreAnswered (StepsBy n) from.scene (rows_of old.desk) trace did.behind.scene r all.0) (sym (ap (λ (d : Departments N own). rows_of d) same)) all.2 in
+      let ends : Ends own decoded 12 CELLS (view_of old.desk) (view_of new.desk) trace all.0 =
+      subst (λ (d : Departments N own). Ends own decoded 12 CELLS (view_of old.desk) (view_of d) trace all.0) (sym same) all.1 in
       record {
         side = did;
         failed = all.0;
         answers = answers;
         follows = λ τ L texts stands tells backed.
-            let between = first_between n τ (Begin ∷ L) _ _ (steps_of deeds) did.bench.steps (did.bench.throughout τ L texts stands tells) in
+            let between = first_between n τ (Begin ∷ L) _ _ (steps_of trace) did.bench.steps (did.bench.throughout τ L texts stands tells) in
             let begins : StandsFor n τ did.begun (Begin ∷ L) = subst (λ (b : BenchOf n). StandsFor n τ b (Begin ∷ L)) did.same between.stands in
-            follow_all τ n texts tells today L from.scene (rows_of old.desk) deeds did.behind.scene (rows_of new.desk) all.0 begins backed answers;
-        storage = leaves own decoded 12 CELLS (view_of old.desk) (view_of new.desk) outcome deeds at.stops (λ works tells c image. shows_now new.desk works tells c image) all.0 ends;
-        throughout = all_shown (StepsBy n) from did.behind deeds did.did;
+            follow_all τ n texts tells today L from.scene (rows_of old.desk) trace did.behind.scene (rows_of new.desk) all.0 begins backed answers;
+        storage = leaves own decoded 12 CELLS (view_of old.desk) (view_of new.desk) outcome trace at.stops (λ works tells c image. shows_now new.desk works tells c image) all.0 ends;
+        throughout = all_shown (StepsBy n) from did.behind trace did.did;
         within = λ d is. (new.desk.sound.each d is).1;
         one = λ d e j is_d is_e has has'. one_department (rows_of new.desk) new.desk.sound d e j is_d is_e has has';
-        agrees = desk_sound (StepsBy n) new.desk from.scene (rows_of old.desk) deeds did.behind.scene all.0 at.last answers;
-        printed = all_printed own (StepsBy n) (prints_by n) from.scene (rows_of old.desk) deeds did.behind.scene (rows_of new.desk) all.0 reads answers;
+        agrees = desk_sound (StepsBy n) new.desk from.scene (rows_of old.desk) trace did.behind.scene all.0 at.last answers;
+        printed = all_printed own (StepsBy n) (prints_by n) from.scene (rows_of old.desk) trace did.behind.scene (rows_of new.desk) all.0 reads answers;
         holds = λ τ L texts stands tells backed unforged.
             let over = did.bench.over τ L texts stands tells in
             let history = (over.stands unforged).history in
-            let between = first_between n τ (Begin ∷ L) _ _ (steps_of deeds) did.bench.steps (did.bench.throughout τ L texts stands tells) in
+            let between = first_between n τ (Begin ∷ L) _ _ (steps_of trace) did.bench.steps (did.bench.throughout τ L texts stands tells) in
             let begins : StandsFor n τ did.begun (Begin ∷ L) = subst (λ (b : BenchOf n). StandsFor n τ b (Begin ∷ L)) did.same between.stands in
-            let b = backed_after τ n texts tells today L from.scene (rows_of old.desk) deeds did.behind.scene (rows_of new.desk) all.0 begins backed unforged answers in
+            let b = backed_after τ n texts tells today L from.scene (rows_of old.desk) trace did.behind.scene (rows_of new.desk) all.0 begins backed unforged answers in
             (departments_hold today τ _ history _ b.0, departments_hold today τ _ history _ b.1);
       }

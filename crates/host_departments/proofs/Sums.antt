@@ -22,12 +22,12 @@ unfolding sum_to
 sum_more zero k p f g lt none here others = absurd (omega (arith, lt))
 sum_more (suc n) k p f g lt none here others = elim (cases_eq n k) [
   | inl last ↦
-      let front : sum_to n g ≡ sum_to n f = sum_same n g f (λ i less. others i (λ is. omega (arith, less, last, is))) in
+      let prefix : sum_to n g ≡ sum_to n f = sum_same n g f (λ i less. others i (λ is. omega (arith, less, last, is))) in
       let mine : g n ≡ p = ap g last ∙ here in
       let nothing : f n ≡ 0 = ap f last ∙ none in
-      omega (arith, front, mine, nothing)
+      omega (arith, prefix, mine, nothing)
   | inr differs ↦
-      let front : sum_to n g ≡ sum_to n f + p = sum_more n k p f g (omega (arith, lt, differs)) none here others in
+      let prefix : sum_to n g ≡ sum_to n f + p = sum_more n k p f g (omega (arith, lt, differs)) none here others in
       let mine : g n ≡ f n = others n differs in
-      omega (arith, front, mine)
+      omega (arith, prefix, mine)
 ]

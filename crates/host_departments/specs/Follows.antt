@@ -2,10 +2,10 @@
 use Rattle.std.specs.Prelude.{◌≡◌, ℕ, List, [], ◌∷◌, Option, Some, None}
 use Rattle.bench_base.specs.Ledger.{Ledger, counted}
 use Rattle.node_turns.specs.declared.turn.Turn.{Turn}
-use Rattle.line_extensions.specs.Deeds.{Done, Skipped, Did}
-use Rattle.line_extensions.specs.SideDeeds.{SideDeed, Plain, Own, Broken}
+use Rattle.line_extensions.specs.Trace.{StepRecord, Skipped, Did}
+use Rattle.line_extensions.specs.SideTrace.{SideStep, Plain, Own, Broken}
 use Rattle.ledger_moves.specs.Tariffs.{Tariff}
-use Rattle.script_replay.specs.Deeds.{ledger_by, ledger_after, AreUnforged}
+use Rattle.script_replay.specs.Trace.{ledger_by, ledger_after, AreUnforged}
 use Rattle.script_replay.specs.Run.{Unforged}
 use Rattle.host_departments.specs.Answers.{CellCommit, AreAnswered}
 use Rattle.host_departments.specs.Holds.{ordered, DepartmentsHold}
@@ -21,11 +21,11 @@ TellsOrders (Assign d j) rows H texts = Unit {0}
 TellsOrders (Spent d) rows H texts = (q : ℕ) → quota rows d ≡ Some q → texts ≡ spent_text d (ordered (counted H) rows d) q ∷ []
 TellsOrders (Print j) rows H texts = Unit {0}
 
-module _ {B : Type 0} (Steps : B → B → Done → Turn → Type 0) (τ : Tariff) where
+module _ {B : Type 0} (Steps : B → B → StepRecord → Turn → Type 0) (τ : Tariff) where
   -- Up to the first forged event: before each line and after the last the departments that are kept then hold by the ledger so far, and `dept spent` is answered
   -- by it.
-  abbrev pub FollowLedger : Ledger → (s : B) (rows : Rows) (deeds : List (SideDeed DepartmentLine)) (t : B) (after : Rows) (failed : Option CellCommit)
-      → AreAnswered Steps s rows deeds t after failed → Type 0
+  abbrev pub FollowLedger : Ledger → (s : B) (rows : Rows) (trace : List (SideStep DepartmentLine)) (t : B) (after : Rows) (failed : Option CellCommit)
+      → AreAnswered Steps s rows trace t after failed → Type 0
   FollowLedger H s rows [] t after failed answers = DepartmentsHold rows H
   FollowLedger H s rows (Plain (Skipped line) ∷ rest) t after failed answers = FollowLedger H s rows rest t after failed answers
   FollowLedger H s rows (Plain (Did line d) ∷ rest) t after failed answers =

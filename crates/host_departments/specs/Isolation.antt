@@ -5,7 +5,7 @@ use Rattle.node_acts.specs.RowList.{row_at}
 use Rattle.node_turns.specs.Turns.{sent_in}
 use Rattle.node_turns.specs.declared.turn.Turn.{Turn}
 use Rattle.script_text.specs.Texts.{text_of}
-use Rattle.host_departments.specs.Answers.{Asked, Answer, IsAnswered}
+use Rattle.host_departments.specs.Answers.{Asked, Answered, IsAnswered}
 use Rattle.host_departments.specs.Heard.{IsTaken}
 use Rattle.host_departments.specs.Rows.{Rows, first_cell, AnotherHas}
 use Rattle.host_departments.specs.declared.row.DepartmentLine.{DepartmentLine}
@@ -37,4 +37,4 @@ AreSameHeard asked other = (j : ℕ) (s t : Turn) → asked ≡ record { event =
 abbrev pub AreIsolated : Type 0
 AreIsolated =
     (d : ℕ) (own : DepartmentLine) → IsLineOf d own → (rows other : Rows) → IsSameFor d rows other
-    → (a b : Answer) → IsAnswered own rows a → IsAnswered own other b → AreSameHeard a.asked b.asked → b.texts ≡ a.texts
+    → (a b : Answered) → IsAnswered own rows a → IsAnswered own other b → AreSameHeard a.asked b.asked → b.texts ≡ a.texts

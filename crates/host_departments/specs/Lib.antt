@@ -2,7 +2,7 @@
 pub mod Answers
 pub mod Courses
 pub mod DepartmentLines
-pub mod DepartmentsDesk
+pub mod DepartmentsExtension
 pub mod Follows
 pub mod Fresh
 pub mod Heard

@@ -8,18 +8,18 @@ use Rattle.ledger_moves.specs.Tariffs.{Tariff}
 use Rattle.bench_abstraction.specs.Tariff.{IsOfTexts}
 use Rattle.bench.specs.Benches.{Nodes}
 use Rattle.line_runs.specs.declared.status.SideStatus.{SideStatus}
-use Rattle.line_extensions.specs.Deeds.{Done}
+use Rattle.line_extensions.specs.Trace.{StepRecord}
 use Rattle.line_extensions.specs.Desks.{World, world}
 use Rattle.line_extensions.specs.Moves.{EachMove}
-use Rattle.line_extensions.specs.SideDeeds.{SideDeed, steps_of}
+use Rattle.line_extensions.specs.SideTrace.{SideStep, steps_of}
 use Rattle.line_extensions.specs.Stops.{LeavesStorage, ShownMeanwhile, with_commit}
 use Rattle.script_replay.specs.Chains.{SceneOf, scene}
-use Rattle.script_replay.specs.Deeds.{ledger_after, AreUnforged}
+use Rattle.script_replay.specs.Trace.{ledger_after, AreUnforged}
 use Rattle.script_replay.specs.Run.{Unforged}
 use Rattle.script_replay.specs.Sides.{StepsBy, DidSide}
 use Rattle.script_replay.specs.Throughout.{StandsFor}
 use Rattle.host_departments.specs.Answers.{CellCommit, AreAnswered}
-use Rattle.host_departments.specs.DepartmentsDesk.{departments_desk}
+use Rattle.host_departments.specs.DepartmentsExtension.{departments_desk}
 use Rattle.host_departments.specs.Follows.{FollowLedger}
 use Rattle.host_departments.specs.Holds.{AreBacked, DepartmentsHold}
 use Rattle.host_departments.specs.Payload.{decoded}
@@ -38,35 +38,35 @@ abbrev pub IsOfOne : Rows → Type 0
 IsOfOne rows = (d e j : ℕ) → IsDepartment d → IsDepartment e → Has rows d j → Has rows e j → d ≡ e
 
 -- a job whose printing was told has a department
-abbrev pub PrintsAssigned : Rows → Done → Type 0
+abbrev pub PrintsAssigned : Rows → StepRecord → Type 0
 PrintsAssigned rows d = (j : ℕ) → d.reply ≡ r.Printed j → IsAssigned rows j
 
 -- so of all that was done
-abbrev pub AllAssigned : Rows → List Done → Type 0
+abbrev pub AllAssigned : Rows → List StepRecord → Type 0
 AllAssigned rows [] = Unit {0}
 AllAssigned rows (d ∷ steps) = PrintsAssigned rows d × AllAssigned rows steps
 
--- The departments and the bench did the deeds; each line about departments has its answer, by what was kept then and by what was heard of its message at
+-- The departments and the bench did the steps; each line about departments has its answer, by what was kept then and by what was heard of its message at
 -- that place of the run; a line is left to the bench only as a `print` of an assigned job or as one that is not about departments; and what is kept then is
 -- within the quotas, with each job of one department at most, which each job has that was printed. One commit may have failed: then a later boot finds what
 -- is kept without it or with it, which agrees either way. At every moment of the run each image shows what is kept then, or
 -- that with the one commit in hand. By a history for which the bench stood, and where the jobs of earlier runs are backed by it, what is kept at each
 -- line holds by the ledger so far, and `dept spent` is answered by it, up to the first forged event. Where nothing was forged, either holds by the ledger that
--- the deeds leave.
-pub record DidDepartments (n : Nodes) {N : Type 0} (own : nv.Ghosts N) (old new : World (SceneOf n) (Departments N own)) (outcome : SideStatus) (deeds : List (SideDeed DepartmentLine)) : Type 0 where
-  pub side : DidSide n (departments_desk own) old new outcome deeds
+-- the steps leave.
+pub record DidDepartments (n : Nodes) {N : Type 0} (own : nv.Ghosts N) (old new : World (SceneOf n) (Departments N own)) (outcome : SideStatus) (trace : List (SideStep DepartmentLine)) : Type 0 where
+  pub side : DidSide n (departments_desk own) old new outcome trace
   pub failed : Option CellCommit
-  pub answers : AreAnswered (StepsBy n) (scene side.begun old.scene.outside) (rows_of old.desk) deeds side.behind.scene (rows_of new.desk) failed
+  pub answers : AreAnswered (StepsBy n) (scene side.begun old.scene.outside) (rows_of old.desk) trace side.behind.scene (rows_of new.desk) failed
   pub follows : (τ : Tariff) (L : Ledger) → IsOfTexts τ → StandsFor n τ old.scene.bench L → n.storage.tells → AreBacked (rows_of old.desk) L
-      → FollowLedger (StepsBy n) τ (Begin ∷ L) (scene side.begun old.scene.outside) (rows_of old.desk) deeds side.behind.scene (rows_of new.desk) failed answers
-  pub storage : LeavesStorage own decoded 12 CELLS (view_of old.desk) (view_of new.desk) outcome deeds failed
+      → FollowLedger (StepsBy n) τ (Begin ∷ L) (scene side.begun old.scene.outside) (rows_of old.desk) trace side.behind.scene (rows_of new.desk) failed answers
+  pub storage : LeavesStorage own decoded 12 CELLS (view_of old.desk) (view_of new.desk) outcome trace failed
   pub throughout : EachMove (departments_desk own) (StepsBy n) (λ s t. ShownMeanwhile own decoded 12 CELLS (view_of s) (view_of t)) (world (scene side.begun old.scene.outside) old.desk)
-      side.behind deeds side.did
+      side.behind trace side.did
   pub within : IsWithinQuotas (rows_of new.desk)
   pub one : IsOfOne (rows_of new.desk)
   pub agrees : IsSound (with_commit failed (rows_of new.desk))
-  pub printed : AllAssigned (rows_of new.desk) (steps_of deeds)
+  pub printed : AllAssigned (rows_of new.desk) (steps_of trace)
   pub holds : (τ : Tariff) (L : Ledger) → IsOfTexts τ → StandsFor n τ old.scene.bench L → n.storage.tells → AreBacked (rows_of old.desk) L
-      → AreUnforged τ Unforged (Begin ∷ L) (steps_of deeds)
-      → DepartmentsHold (rows_of new.desk) (ledger_after τ (Begin ∷ L) (steps_of deeds))
-      × DepartmentsHold (with_commit failed (rows_of new.desk)) (ledger_after τ (Begin ∷ L) (steps_of deeds))
+      → AreUnforged τ Unforged (Begin ∷ L) (steps_of trace)
+      → DepartmentsHold (rows_of new.desk) (ledger_after τ (Begin ∷ L) (steps_of trace))
+      × DepartmentsHold (with_commit failed (rows_of new.desk)) (ledger_after τ (Begin ∷ L) (steps_of trace))

@@ -2,8 +2,8 @@
 use Rattle.std.specs.Prelude.{ℕ, List, [], ◌∷◌, codes, decimal}
 use Rattle.script_words.specs.Words.{joined}
 use Rattle.script_text.specs.Texts.{text_of}
-use Rattle.host_departments.specs.declared.said.Said.{Said}
-use Rattle.host_departments.specs.declared.said.Said.TheVariants as said
+use Rattle.host_departments.specs.declared.answer.Answer.{Answer}
+use Rattle.host_departments.specs.declared.answer.Answer.TheVariants as answers
 
 -- words with a number behind them
 abbrev pub numbered : List ℕ → ℕ → List ℕ
@@ -22,18 +22,18 @@ unfoldable pub spent_text : ℕ → ℕ → ℕ → List ℕ
 spent_text d s q = joined (codes "spent" ∷ decimal d ∷ decimal s ∷ codes "quota" ∷ decimal q ∷ [])
 
 -- the text of an answer: there is none while a message is awaited
-abbrev pub said_texts : Said → List (List ℕ)
-said_texts said.Nothing = []
-said_texts (said.Sending d j) = []
-said_texts (said.Quota d q) = quota_text d q ∷ []
-said_texts (said.Below s) = numbered (codes "refused dept below spent") s ∷ []
-said_texts (said.Assigned j d left) = assigned_text j d left ∷ []
-said_texts (said.Again j d) = again_text j d ∷ []
-said_texts (said.Unknown d) = numbered (codes "refused dept unknown") d ∷ []
-said_texts (said.Taken j) = numbered (codes "refused dept assigned") j ∷ []
-said_texts said.Full = codes "refused dept full" ∷ []
-said_texts (said.Sent reply) = text_of reply ∷ []
-said_texts (said.OverQuota left) = numbered (codes "refused dept quota") left ∷ []
-said_texts (said.Spent d s q) = spent_text d s q ∷ []
-said_texts (said.Unassigned j) = numbered (codes "refused dept unassigned") j ∷ []
-said_texts said.Worn = codes "worn desk" ∷ []
+abbrev pub said_texts : Answer → List (List ℕ)
+said_texts answers.Nothing = []
+said_texts (answers.Sending d j) = []
+said_texts (answers.Quota d q) = quota_text d q ∷ []
+said_texts (answers.Below s) = numbered (codes "refused dept below spent") s ∷ []
+said_texts (answers.Assigned j d left) = assigned_text j d left ∷ []
+said_texts (answers.Again j d) = again_text j d ∷ []
+said_texts (answers.Unknown d) = numbered (codes "refused dept unknown") d ∷ []
+said_texts (answers.Taken j) = numbered (codes "refused dept assigned") j ∷ []
+said_texts answers.Full = codes "refused dept full" ∷ []
+said_texts (answers.Sent reply) = text_of reply ∷ []
+said_texts (answers.OverQuota left) = numbered (codes "refused dept quota") left ∷ []
+said_texts (answers.Spent d s q) = spent_text d s q ∷ []
+said_texts (answers.Unassigned j) = numbered (codes "refused dept unassigned") j ∷ []
+said_texts answers.Worn = codes "worn desk" ∷ []

@@ -8,7 +8,7 @@ use Rattle.line_extensions.specs.Stops.{DeskView}
 use Rattle.host_departments.specs.Kept.{rows_in}
 use Rattle.host_departments.specs.Rows.{Rows}
 use Rattle.host_departments.specs.declared.desk.Departments.{Departments}
-use Rattle.host_departments.specs.declared.said.Said.{Said}
+use Rattle.host_departments.specs.declared.answer.Answer.{Answer}
 
 module _ {N : Type 0} {g : Ghosts N} where
   -- their storage
@@ -24,7 +24,7 @@ module _ {N : Type 0} {g : Ghosts N} where
   has_failed desk = desk.failed
 
   -- what was answered last, or is waited for
-  abbrev pub said_of : Departments N g → Said
+  abbrev pub said_of : Departments N g → Answer
   said_of desk = desk.said
 
   -- the quotas and jobs that are kept

@@ -11,11 +11,11 @@ ghost use Rattle.host_departments.specs.Rows.{IsSound, row_in};
 ghost use Rattle.host_departments.specs.View.{storage_of, room_of, has_failed, rows_of};
 ghost use Rattle.host_departments.specs.declared.row.TheConstants.{CELLS};
 
+use crate::answer::Answer;
 use crate::desk::Departments;
 use crate::index::index_of;
 use crate::payload::DepartmentRows;
 use crate::row::CELLS;
-use crate::said::Said;
 use bench_base::refusals::BootFail;
 use nv_model::Nv;
 use nv_store::Room;
@@ -64,7 +64,7 @@ impl<N: Nv> Departments<N> {
                     nv,
                     room,
                     failed: false,
-                    said: Said::Nothing,
+                    said: Answer::Nothing,
                     index,
                 })
             }

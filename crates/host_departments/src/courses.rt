@@ -12,13 +12,13 @@ ghost use Rattle.host_departments.specs.Waits.{IsWaiting, MayTake};
 ghost use Rattle.host_departments.specs.declared.row.TheConstants.{CELLS};
 ghost use Rattle.host_departments.specs.declared.row.DepartmentLine.TheVariants as line;
 
+use crate::answer::Answer;
 use crate::desk::Departments;
 use crate::heard::{Heard, postage_taken};
 use crate::index::{indexed_cell, note_row};
 use crate::kept::{first_cell, jobs, quota, spent};
 use crate::payload::{DepartmentRows, department_of};
 use crate::row::{CELLS, DepartmentLine, DepartmentRow, JOBS};
-use crate::said::Said;
 use bench_base::events::Event;
 use bench_base::refusals::StoreFail;
 use line_extensions::Next;
@@ -54,7 +54,7 @@ impl<N: Nv> Departments<N> {
     }
 
     // Answers so.
-    pub(crate) fn say(&mut self, said: Said) -> Next
+    pub(crate) fn say(&mut self, said: Answer) -> Next
         requires waits { IsWaiting (rows_of self.old) said }
         ensures says { Says said self.old result self.new }
         ensures last { IsStep result → ⊥ }
@@ -64,7 +64,7 @@ impl<N: Nv> Departments<N> {
     }
 
     // Commits a row to a cell. What is meant is answered once that is done.
-    fn commit(&mut self, cell: u32, row: &DepartmentRow, meant: Said) -> Next
+    fn commit(&mut self, cell: u32, row: &DepartmentRow, meant: Answer) -> Next
         requires inside { cell < CELLS }
         requires fits { IsFit cell row.now }
         requires sound { IsSound (put (rows_of self.old) cell row.now) }
@@ -73,7 +73,7 @@ impl<N: Nv> Departments<N> {
         ensures last { IsStep result → ⊥ }
     {
         if self.failed {
-            self.said = Said::Nothing;
+            self.said = Answer::Nothing;
             return Next::Stop;
         }
         note_row(&mut self.index, cell, row);
@@ -83,12 +83,12 @@ impl<N: Nv> Departments<N> {
                 Next::Say
             }
             Err(StoreFail::Worn) => {
-                self.said = Said::Worn;
+                self.said = Answer::Worn;
                 Next::Say
             }
             Err(_) => {
                 self.failed = true;
-                self.said = Said::Nothing;
+                self.said = Answer::Nothing;
                 Next::Stop
             }
         }
@@ -102,10 +102,10 @@ impl<N: Nv> Departments<N> {
     {
         let spent = self.spent(department);
         if u64::from(quota) < spent {
-            return self.say(Said::Below(spent));
+            return self.say(Answer::Below(spent));
         }
         let row = DepartmentRow::Quota(quota);
-        self.commit(department - 1, &row, Said::Quota(department, quota))
+        self.commit(department - 1, &row, Answer::Quota(department, quota))
     }
 
     // Asks for the message of a job that no department has, where there is room for it.
@@ -118,9 +118,9 @@ impl<N: Nv> Departments<N> {
         ensures may { MayAsk result 0 }
     {
         if jobs(&self.room, CELLS, department) == JOBS {
-            return self.say(Said::Full);
+            return self.say(Answer::Full);
         }
-        self.said = Said::Sending(department, job);
+        self.said = Answer::Sending(department, job);
         Next::Step(Event::Send(job))
     }
 
@@ -136,9 +136,9 @@ impl<N: Nv> Departments<N> {
             None => self.send(department, job),
             Some(owner) => {
                 if owner == department {
-                    return self.say(Said::Again(job, department));
+                    return self.say(Answer::Again(job, department));
                 }
-                self.say(Said::Taken(job))
+                self.say(Answer::Taken(job))
             }
         }
     }
@@ -152,7 +152,7 @@ impl<N: Nv> Departments<N> {
     {
         match self.quota(department) {
             Some(_) => self.assign(department, job),
-            None => self.say(Said::Unknown(department)),
+            None => self.say(Answer::Unknown(department)),
         }
     }
 
@@ -164,9 +164,9 @@ impl<N: Nv> Departments<N> {
         match self.quota(department) {
             Some(quota) => {
                 let spent = self.spent(department);
-                self.say(Said::Spent(department, spent, quota))
+                self.say(Answer::Spent(department, spent, quota))
             }
-            None => self.say(Said::Unknown(department)),
+            None => self.say(Answer::Unknown(department)),
         }
     }
 
@@ -181,7 +181,7 @@ impl<N: Nv> Departments<N> {
             DepartmentLine::Quota(department, quota) => self.set_quota(*department, *quota),
             DepartmentLine::Assign(department, job) => self.begin_assign(*department, *job),
             DepartmentLine::Spent(department) => self.begin_spent(*department),
-            DepartmentLine::Print(job) => self.say(Said::Unassigned(*job)),
+            DepartmentLine::Print(job) => self.say(Answer::Unassigned(*job)),
         }
     }
 
@@ -196,11 +196,11 @@ impl<N: Nv> Departments<N> {
         ensures last { IsStep result → ⊥ }
     {
         if left < u64::from(postage) {
-            return self.say(Said::OverQuota(left));
+            return self.say(Answer::OverQuota(left));
         }
         let cell = first_cell(department) + jobs(&self.room, CELLS, department);
         let row = DepartmentRow::Job(job, postage);
-        let meant = Said::Assigned(job, department, left - u64::from(postage));
+        let meant = Answer::Assigned(job, department, left - u64::from(postage));
         self.commit(cell, &row, meant)
     }
 
@@ -227,7 +227,7 @@ impl<N: Nv> Departments<N> {
     {
         match postage_taken(told, job) {
             Some(postage) => self.sent(department, job, postage),
-            None => self.say(Said::Sent(told.reply)),
+            None => self.say(Answer::Sent(told.reply)),
         }
     }
 }

@@ -11,7 +11,7 @@ ghost use Rattle.host_departments.specs.Rows.{IsSound};
 ghost use Rattle.host_departments.specs.Waits.{IsWaiting, waiting_prop};
 ghost use Rattle.host_departments.specs.declared.row.TheConstants.{CELLS};
 
-use crate::said::Said;
+use crate::answer::Answer;
 use nv_model::Nv;
 use nv_store::Room;
 
@@ -22,7 +22,7 @@ pub struct Departments<N: Nv> {
     pub(crate) nv: N,
     pub(crate) room: Room<12>,
     pub(crate) failed: bool,
-    pub(crate) said: Said,
+    pub(crate) said: Answer,
     pub(crate) index: [u16; 2048],
     ghost cells: { cells_of room ≡ CELLS },
     ghost filled: { AllFilled room } by { read_prop decoded (cells_of room) (kept_in room) },

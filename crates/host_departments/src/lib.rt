@@ -1,6 +1,7 @@
 //! Departments: each has a quota, and only jobs that a department has taken are printed.
 #![tactic(auto)]
 
+mod answer;
 mod boot;
 mod courses;
 mod desk;
@@ -14,11 +15,10 @@ mod own;
 mod payload;
 mod row;
 mod run;
-mod said;
 
+pub use answer::Answer;
 pub use desk::Departments;
 pub use heard::Heard;
 pub use payload::DepartmentRows;
 pub use row::{CELLS, DEPARTMENT_BYTES, DEPARTMENTS, DepartmentLine, DepartmentRow, JOBS};
 pub use run::run_departments;
-pub use said::Said;

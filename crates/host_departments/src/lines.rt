@@ -56,10 +56,10 @@ fn is_word(word: &[u8], wanted: &[u8]) -> bool
 }
 
 // The line of the words behind `dept`, of which this is the first.
-fn read_rest(front: &[u8], word: &[u8], rest: &[u8]) -> Option<DepartmentLine>
-    requires split { words_in front.now ≡ word.now ∷ words_in rest.now }
-    ensures found { IfSome result (λ own. IsBehind own (words_in front.now)) }
-    ensures none { IfNone result ((own : TheLine) → IsBehind own (words_in front.now) → ⊥) }
+fn read_rest(prefix: &[u8], word: &[u8], rest: &[u8]) -> Option<DepartmentLine>
+    requires split { words_in prefix.now ≡ word.now ∷ words_in rest.now }
+    ensures found { IfSome result (λ own. IsBehind own (words_in prefix.now)) }
+    ensures none { IfNone result ((own : TheLine) → IsBehind own (words_in prefix.now) → ⊥) }
 {
     if is_word(word, b"quota") {
         return match read_pair(rest) {
@@ -83,12 +83,12 @@ fn read_rest(front: &[u8], word: &[u8], rest: &[u8]) -> Option<DepartmentLine>
 }
 
 // The line of the words behind `dept`.
-fn read_dept(front: &[u8]) -> Option<DepartmentLine>
-    ensures found { IfSome result (λ own. IsBehind own (words_in front.now)) }
-    ensures none { IfNone result ((own : TheLine) → IsBehind own (words_in front.now) → ⊥) }
+fn read_dept(prefix: &[u8]) -> Option<DepartmentLine>
+    ensures found { IfSome result (λ own. IsBehind own (words_in prefix.now)) }
+    ensures none { IfNone result ((own : TheLine) → IsBehind own (words_in prefix.now) → ⊥) }
 {
-    match split_word(front) {
-        Some((word, rest)) => read_rest(front, word, rest),
+    match split_word(prefix) {
+        Some((word, rest)) => read_rest(prefix, word, rest),
         None => None,
     }
 }

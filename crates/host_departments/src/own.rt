@@ -9,13 +9,13 @@ ghost use Rattle.host_departments.specs.Texts.{said_texts};
 ghost use Rattle.host_departments.specs.View.{said_of, rows_of};
 ghost use Rattle.host_departments.specs.declared.row.DepartmentLine.{DepartmentLine as TheLine};
 
+use crate::answer::Answer;
 use crate::desk::Departments;
 use crate::heard::Heard;
 use crate::lines::read_department_line;
 use crate::row::DepartmentLine;
-use crate::said::Said;
 use bench_base::events::Event;
-use line_extensions::{Desk, Next};
+use line_extensions::{Extension, Next};
 use nv_model::Nv;
 use script_words::Line;
 use std::alloc::{AllocError, Global};
@@ -33,7 +33,7 @@ impl<N: Nv> Departments<N> {
     }
 }
 
-impl<N: Nv> Desk for Departments<N> {
+impl<N: Nv> Extension for Departments<N> {
     type Heard = Heard;
 
     ghost Own = { TheLine };
@@ -70,7 +70,7 @@ impl<N: Nv> Desk for Departments<N> {
 
     fn go_on(&mut self, told: &Heard) -> Next {
         match self.said {
-            Said::Sending(department, job) => self.hears(department, job, told),
+            Answer::Sending(department, job) => self.hears(department, job, told),
             _ => Next::Say,
         }
     }

@@ -30,7 +30,7 @@ fn numbers_in(payload: &[u8; 12]) -> [u32; 3]
 // The quota of the department of a cell that these numbers are.
 #[tactic(auto, unfolding(crate::specs::Payload::quota_from))]
 fn quota_from(cell: u32, numbers: &[u32; 3]) -> Option<DepartmentRow>
-    requires front { cell < 16 }
+    requires prefix { cell < 16 }
     ensures { result ≡ layout.quota_from cell numbers.now }
 {
     if numbers[0] == cell + 1 {

@@ -16,7 +16,7 @@ use Rattle.host_jobs.specs.declared.orders.Shelf.{Shelf}
 use Rattle.host_jobs.specs.Acts.{shelf_in}
 use Rattle.host_jobs.specs.declared.sizes.TheConstants.{HOST_CELLS}
 use Rattle.host_jobs.specs.Rows.{Jobs, no_jobs, number_in, top_at, is_ordered, waiting, state_in, row_in, put_row, last_in, top_in, open_in, oldest_in, tops_in, opens_in, kept_of, opened_by, kept_after}
-use Rattle.host_jobs.specs.Soundness.{IsSoundJob, IsJobAt, IsFresh, AreSound, Comes, IsNext, IsKept}
+use Rattle.host_jobs.specs.Soundness.{IsSoundJob, IsJobAt, IsFresh, AreSound, Comes, IsNext, IsDerived}
 use Rattle.host_jobs.proofs.Lists.{greatest_least, found_none, found_set}
 use Rattle.host_jobs.proofs.Found.{waiting_is, not_waiting, not_device, waits, opens, opens_none, opened, row_at, tops_at}
 use Rattle.host_jobs.proofs.Puts.{put_here, put_other, put_last, put_top}
@@ -154,7 +154,7 @@ module _ (rows : Jobs) (x : JobRow) (sound : AreSound rows) (next : IsNext rows 
       ∙ ap (λ (l : List (Option ℕ)). of (last_in after) l x.tops) opens_kept
       ∙ ap (λ (l : List ℕ). of (last_in after) (opens_in after) l) tops_kept
 
-pub keeps_on : (rows : Jobs) (kept : Kept) (x : JobRow) → IsKept rows kept → IsNext rows x → IsKept (put_row rows x) (kept_after kept x)
+pub keeps_on : (rows : Jobs) (kept : Kept) (x : JobRow) → IsDerived rows kept → IsNext rows x → IsDerived (put_row rows x) (kept_after kept x)
 keeps_on rows kept x is next = record { sound = next.sound; is = ap (λ (k : Kept). kept_after k x) is.is ∙ kept_next rows x is.sound next }
 
 -- == no jobs ==
@@ -190,7 +190,7 @@ no_jobs_sound = record {
 at_none : {A : Type 0} (a : A) (n i : ℕ) (d : A) → i < n → get_or (replicate n a) i d ≡ a
 at_none a n i d lt = get_or-replicate n i a d lt
 
-pub none_kept : IsKept no_jobs (record { last = 0; open_jobs = replicate 8 None; tops = replicate 8 0 })
+pub none_kept : IsDerived no_jobs (record { last = 0; open_jobs = replicate 8 None; tops = replicate 8 0 })
 none_kept = record {
   sound = no_jobs_sound;
   is =
@@ -202,7 +202,7 @@ none_kept = record {
 
 -- == what is kept, read ==
 
-module _ (rows : Jobs) (kept : Kept) (is : IsKept rows kept) where
+module _ (rows : Jobs) (kept : Kept) (is : IsDerived rows kept) where
   pub open_kept : (d : ℕ) → IsDevice d → get_or kept.open_jobs (d - 1) None ≡ open_in d rows
   open_kept d device = ap (λ (k : Kept). get_or k.open_jobs (d - 1) None) is.is ∙ opens_at rows d device
 

@@ -7,7 +7,7 @@ use Rattle.bench_base.specs.declared.words.JobState.TheVariants as state
 use Rattle.host_jobs.specs.declared.rows.JobRow.{JobRow}
 use Rattle.host_jobs.specs.declared.kept.Kept.{Kept}
 use Rattle.host_jobs.specs.Rows.{Jobs, row_in}
-use Rattle.host_jobs.specs.Soundness.{IsMarked, Holds, IsSoundJob, IsJobAt, IsFresh, ArePlaced, AreJoined, AreSound, IsKept}
+use Rattle.host_jobs.specs.Soundness.{IsMarked, Holds, IsSoundJob, IsJobAt, IsFresh, ArePlaced, AreJoined, AreSound, IsDerived}
 
 if_some_prop : {A : Type 0} (P : A → Type 0) → ((a : A) → IsProp (P a)) → (o : Option A) → IsProp (IfSome o P)
 if_some_prop P one None = hlevel
@@ -48,5 +48,5 @@ joined_prop rows =
 sound_rows_prop : (rows : Jobs) → IsProp (AreSound rows)
 sound_rows_prop rows = let placed = placed_prop rows in let joined = joined_prop rows in hlevel (placed, joined, props)
 
-pub kept_unique : (rows : Jobs) (kept : Kept) → IsProp (IsKept rows kept)
+pub kept_unique : (rows : Jobs) (kept : Kept) → IsProp (IsDerived rows kept)
 kept_unique rows kept = let sound = sound_rows_prop rows in hlevel (sound, props)

@@ -74,7 +74,7 @@ pub record AreSound (rows : Jobs) : Type 0 where
   pub joined : AreJoined rows
 
 -- the rows are sound, and what is kept is theirs
-pub record IsKept (rows : Jobs) (kept : Kept) : Type 0 where
+pub record IsDerived (rows : Jobs) (kept : Kept) : Type 0 where
   pub sound : AreSound rows
   pub is : kept ≡ kept_of rows
 

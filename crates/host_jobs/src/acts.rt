@@ -4,7 +4,7 @@ ghost use Rattle.bench_base.specs.Ranges.{IsDevice};
 ghost use Rattle.indicium.specs.Marks.{read_mark};
 ghost use Rattle.host_jobs.specs.Acts as act_of;
 ghost use Rattle.host_jobs.specs.Rows as told;
-ghost use Rattle.host_jobs.specs.Soundness.{IsKept};
+ghost use Rattle.host_jobs.specs.Soundness.{IsDerived};
 
 use crate::kept::{JobRows, Kept};
 use crate::orders::{Shelf, hold, order};
@@ -42,7 +42,7 @@ fn oldest(rows: &JobRows, last: u32) -> Option<JobState>
 }
 
 fn shelf_in(device: DevNo, rows: &JobRows, kept: &Kept) -> Shelf
-    requires { IsKept rows.now kept.now }
+    requires { IsDerived rows.now kept.now }
     ensures value { result ≡ act_of.shelf_in device rows.now }
     ensures number { IsDevice device }
 {
@@ -64,7 +64,7 @@ fn ordered_act(
     rows: &JobRows,
     kept: &Kept,
 ) -> HostAct<Ordered>
-    requires { IsKept rows.now kept.now }
+    requires { IsDerived rows.now kept.now }
     ensures act { result ≡ act_of.order_act device piece class (Some (Ok postage)) rows.now }
     ensures number { IsDevice device }
 {
@@ -107,7 +107,7 @@ pub fn order_act(
     rows: &JobRows,
     kept: &Kept,
 ) -> HostAct<Ordered>
-    requires { IsKept rows.now kept.now }
+    requires { IsDerived rows.now kept.now }
     ensures { result ≡ act_of.order_act device piece class price rows.now }
 {
     match price {
@@ -148,7 +148,7 @@ fn debit_note(row: &JobRow) -> Note
 
 // The row in this state, with the present tops.
 fn moved(row: &JobRow, state: JobState, rows: &JobRows, kept: &Kept) -> JobRow
-    requires { IsKept rows.now kept.now }
+    requires { IsDerived rows.now kept.now }
     ensures { result ≡ act_of.moved row.now state (told.tops_in rows.now) }
 {
     JobRow {
@@ -160,7 +160,7 @@ fn moved(row: &JobRow, state: JobState, rows: &JobRows, kept: &Kept) -> JobRow
 
 /// Begins the print of the job, whose mark is told. `NoJob` where no cell holds the job; `State` where it is not held.
 pub fn begin_print_act(job: u32, rows: &JobRows, kept: &Kept) -> HostAct<[u8; 64]>
-    requires { IsKept rows.now kept.now }
+    requires { IsDerived rows.now kept.now }
     ensures { result ≡ act_of.begin_print_act job rows.now }
 {
     let Some(row) = rows.job(job) else {
@@ -181,7 +181,7 @@ pub fn begin_print_act(job: u32, rows: &JobRows, kept: &Kept) -> HostAct<[u8; 64
 
 /// Closes the job. `NoJob` where no cell holds it; `State` where it is closed.
 pub fn close_act(job: u32, rows: &JobRows, kept: &Kept) -> HostAct<()>
-    requires { IsKept rows.now kept.now }
+    requires { IsDerived rows.now kept.now }
     ensures { result ≡ act_of.close_act job rows.now }
 {
     let Some(row) = rows.job(job) else {
@@ -201,7 +201,7 @@ pub fn close_act(job: u32, rows: &JobRows, kept: &Kept) -> HostAct<()>
 
 // The row with the mark, and its piece among the tops.
 fn held_row(row: &JobRow, mark: &[u8; 64], rows: &JobRows, kept: &Kept) -> JobRow
-    requires { IsKept rows.now kept.now }
+    requires { IsDerived rows.now kept.now }
     ensures { result ≡ act_of.held_row row.now mark.now (told.tops_in rows.now) }
 {
     let place = row.device.get() as usize - 1;
@@ -219,7 +219,7 @@ fn held_row(row: &JobRow, mark: &[u8; 64], rows: &JobRows, kept: &Kept) -> JobRo
 
 // The job of the device that waits for its mark; there is none of another number than 1 to 8.
 fn open_job(device: u32, rows: &JobRows, kept: &Kept) -> Option<u32>
-    requires { IsKept rows.now kept.now }
+    requires { IsDerived rows.now kept.now }
     ensures { result ≡ told.open_in device rows.now }
 {
     match DevNo::new(device) {
@@ -229,7 +229,7 @@ fn open_job(device: u32, rows: &JobRows, kept: &Kept) -> Option<u32>
 }
 
 fn held_act(bytes: &[u8; 64], mark: &Mark, job: u32, rows: &JobRows, kept: &Kept) -> HostAct<u32>
-    requires { IsKept rows.now kept.now }
+    requires { IsDerived rows.now kept.now }
     ensures { result ≡ act_of.held_act bytes.now mark.now (told.job_row rows.now job) (told.tops_in rows.now) }
 {
     let Some(row) = rows.job(job) else {
@@ -249,7 +249,7 @@ fn held_act(bytes: &[u8; 64], mark: &Mark, job: u32, rows: &JobRows, kept: &Kept
 }
 
 fn mark_act(bytes: &[u8; 64], rows: &JobRows, kept: &Kept) -> HostAct<u32>
-    requires { IsKept rows.now kept.now }
+    requires { IsDerived rows.now kept.now }
     ensures { result ≡ act_of.mark_act bytes.now (read_mark bytes.now) (act_of.in_rows rows.now) }
 {
     let Ok((mark, _)) = read_indicium(bytes) else {
@@ -266,7 +266,7 @@ fn mark_act(bytes: &[u8; 64], rows: &JobRows, kept: &Kept) -> HostAct<u32>
 /// `OtherPiece`, `OtherPostage` and `OtherClass`, with the job's value, where the mark's differs. The code of the mark is not
 /// checked.
 pub fn take_act(bytes: &[u8], rows: &JobRows, kept: &Kept) -> HostAct<u32>
-    requires { IsKept rows.now kept.now }
+    requires { IsDerived rows.now kept.now }
     ensures { result ≡ act_of.take_act bytes.now rows.now }
 {
     match read_message(bytes) {

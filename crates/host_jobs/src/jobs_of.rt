@@ -1,6 +1,6 @@
 //! What has the jobs of the host that calls are asked of, wherever they lie: in the host's storage, or beside it.
 ghost use Rattle.std.specs.Prelude.{◌≡◌};
-ghost use Rattle.host_jobs.specs.Soundness.{IsKept};
+ghost use Rattle.host_jobs.specs.Soundness.{IsDerived};
 
 use crate::kept::{JobRows, Kept};
 
@@ -16,5 +16,5 @@ pub trait JobsOf<B> {
 
     /// What is kept of them.
     fn kept(&self) -> &Kept
-        ensures { IsKept (jobs self.now) result.now };
+        ensures { IsDerived (jobs self.now) result.now };
 }

@@ -4,7 +4,7 @@ ghost use Rattle.std.specs.Option.{option_copied};
 ghost use Rattle.bench_base.specs.Ranges.{IsDevice};
 ghost use Rattle.bench_base.specs.Rows.{first_of};
 ghost use Rattle.host_jobs.specs.Rows.{row_in, number_in, top_at, is_ordered, waiting, last_in, tops_in, opens_in};
-ghost use Rattle.host_jobs.specs.Soundness.{AreGapless, WaitOnce, AreFresh, ArePlaced, AreJoined, IsKept};
+ghost use Rattle.host_jobs.specs.Soundness.{AreGapless, WaitOnce, AreFresh, ArePlaced, AreJoined, IsDerived};
 
 use crate::kept::{JobRows, Kept};
 use crate::rows::JobRow;
@@ -125,7 +125,7 @@ impl Kept {
     pub fn of(rows: &JobRows) -> Option<Kept>
         requires placed { ArePlaced rows.now }
         ensures joined { IsSome result ↔ AreJoined rows.now }
-        ensures kept { IfSome result (IsKept rows.now) }
+        ensures kept { IfSome result (IsDerived rows.now) }
     {
         let last = last_of(rows);
         if !are_gapless(rows, last) {

@@ -4,7 +4,7 @@ ghost use Rattle.std.specs.Option.{option_copied};
 ghost use Rattle.bench_base.specs.Jobs as jobs;
 ghost use Rattle.host_jobs.specs.Rows.{no_jobs, row_in, job_row, put_row};
 ghost use Rattle.host_jobs.specs.Rows as told;
-ghost use Rattle.host_jobs.specs.Soundness.{IsKept, IsNext};
+ghost use Rattle.host_jobs.specs.Soundness.{IsDerived, IsNext};
 
 use crate::rows::JobRow;
 use crate::sizes::HOST_CELLS;
@@ -112,7 +112,7 @@ fn opened_by(row: &JobRow, open_job: Option<u32>) -> Option<u32>
 impl Kept {
     /// What is kept where there is no job.
     pub fn none() -> Kept
-        ensures { IsKept no_jobs result }
+        ensures { IsDerived no_jobs result }
     {
         Kept {
             last: 0,
@@ -143,10 +143,10 @@ impl Kept {
 
 /// Puts the row that is written next into its cell, and keeps what follows from it.
 pub fn put(rows: &mut JobRows, kept: &mut Kept, row: &JobRow)
-    requires kept { IsKept rows.old kept.old }
+    requires kept { IsDerived rows.old kept.old }
     requires next { IsNext rows.old row.now }
     ensures rows { rows.new ≡ put_row rows.old row.now }
-    ensures kept { IsKept rows.new kept.new }
+    ensures kept { IsDerived rows.new kept.new }
 {
     rows.set(cell_of(row.job), Some(*row));
     *kept = kept.after(row);

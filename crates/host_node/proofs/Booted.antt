@@ -4,7 +4,7 @@ use Rattle.nv_store.specs.Slot.{Held}
 use Rattle.row_node.specs.Boots.{Found, HoldNone}
 use Rattle.host_jobs.specs.declared.sizes.TheConstants.{HOST_CELLS}
 use Rattle.host_jobs.specs.Rows.{Jobs, row_in}
-use Rattle.host_jobs.specs.Soundness.{AreSound, IsKept}
+use Rattle.host_jobs.specs.Soundness.{AreSound, IsDerived}
 use Rattle.host_node.specs.Boots.{JobsRead}
 use Rattle.host_node.specs.Cells.{rows_kept}
 use Rattle.host_node.specs.Payloads.{HoldRows}
@@ -16,7 +16,7 @@ module _ (held : ℕ → Option Held) (rows : Jobs) (long : length rows ≡ HOST
   hold_rows k lt = (read k lt).filled
 
   -- so a boot finds these jobs, where they are sound
-  pub found : (m : HostRows) → m.jobs ≡ rows → IsKept m.jobs m.kept → Found host_table m held
+  pub found : (m : HostRows) → m.jobs ≡ rows → IsDerived m.jobs m.kept → Found host_table m held
   found m is kept = record {
     keeps = record { filled = filled; follows = kept };
     agree = subst AreSound (sym (rows_kept m.jobs held m.long filled)) kept.sound;

@@ -7,11 +7,11 @@ use Rattle.host_jobs.specs.declared.rows.JobRow.{JobRow}
 use Rattle.host_jobs.specs.Acts.{HostAct}
 use Rattle.host_jobs.specs.ActLaws.{LeavesSound, SoundActs}
 use Rattle.host_jobs.specs.Rows.{Jobs}
-use Rattle.host_jobs.specs.Soundness.{IsKept, IsNext}
+use Rattle.host_jobs.specs.Soundness.{IsDerived, IsNext}
 use Rattle.host_jobs.proofs.SoundActs.{leaves}
 
 -- the acts by the jobs, of which what is kept is theirs
-pub sound_acts : (rows : Jobs) (kept : Kept) → IsKept rows kept → SoundActs rows
+pub sound_acts : (rows : Jobs) (kept : Kept) → IsDerived rows kept → SoundActs rows
 sound_acts rows kept is = leaves rows is.sound
 
 -- what an act by jobs that were lent commits is the next of them

@@ -7,7 +7,7 @@ use Rattle.host_jobs.specs.declared.rows.JobRow.{JobRow}
 use Rattle.host_jobs.specs.declared.kept.Kept.{Kept}
 use Rattle.host_jobs.specs.Rows.{Jobs}
 use Rattle.host_jobs.specs.Seen.{cell_of, rows_in}
-use Rattle.host_jobs.specs.Soundness.{IsKept, IsSoundJob, IsJobAt, IsNext}
+use Rattle.host_jobs.specs.Soundness.{IsDerived, IsSoundJob, IsJobAt, IsNext}
 use Rattle.host_node.specs.Cells.{rows_kept, row_here}
 use Rattle.host_node.specs.Table.{host_table}
 use Rattle.host_node.specs.declared.kept.HostRows.{HostRows}
@@ -20,10 +20,10 @@ module _ (m : HostRows) (held : ℕ → Option Held) where
   pub jobs_lent : (lent : HostRows) → lent ≡ m → Filled host_table m held → lent.jobs ≡ rows_in (seen_of host_table m held)
   jobs_lent lent same filled = ap (λ (k : HostRows). k.jobs) same ∙ sym (rows_are filled)
 
-  pub kept_lent : (lent : HostRows) → lent ≡ m → Keeps host_table m held → IsKept (rows_in (seen_of host_table m held)) lent.kept
+  pub kept_lent : (lent : HostRows) → lent ≡ m → Keeps host_table m held → IsDerived (rows_in (seen_of host_table m held)) lent.kept
   kept_lent lent same keeps =
-      subst (λ (k : Kept). IsKept (rows_in (seen_of host_table m held)) k) (ap (λ (k : HostRows). k.kept) (sym same))
-      (subst (λ (rows : Jobs). IsKept rows m.kept) (sym (rows_are keeps.filled)) keeps.follows)
+      subst (λ (k : Kept). IsDerived (rows_in (seen_of host_table m held)) k) (ap (λ (k : HostRows). k.kept) (sym same))
+      (subst (λ (rows : Jobs). IsDerived rows m.kept) (sym (rows_are keeps.filled)) keeps.follows)
 
   -- the next job is sound
   pub sound_next : (x : JobRow) → Filled host_table m held → IsNext (rows_in (seen_of host_table m held)) x → IsSoundJob x

@@ -14,7 +14,7 @@ use Rattle.host_jobs.specs.declared.rows.JobRow.{JobRow}
 use Rattle.host_jobs.specs.declared.sizes.TheConstants.{JOB_BYTES, HOST_CELLS}
 use Rattle.host_jobs.specs.Payload.{job_bytes}
 use Rattle.host_jobs.specs.Rows.{row_in}
-use Rattle.host_jobs.specs.Soundness.{AreSound, IsKept}
+use Rattle.host_jobs.specs.Soundness.{AreSound, IsDerived}
 use Rattle.host_jobs.specs.Seen.{Seen, cell_of, counting, rows_in, IsKnown}
 use Rattle.host_jobs.proofs.JobBytes.{one_job}
 use Rattle.host_node.specs.Unique.{kept_prop}
@@ -40,7 +40,7 @@ host_table = record {
   Agree = λ s. AreSound (rows_in s);
   IsSound = IsKnown;
   kept = λ m held k. row_in m.jobs k;
-  Follows = λ m held. IsKept m.jobs m.kept;
+  Follows = λ m held. IsDerived m.jobs m.kept;
   one_follows = λ m held. kept_prop m.jobs m.kept;
 }
 

@@ -5,7 +5,7 @@ ghost use Rattle.nv_store.specs.Turns.{Kept as WithPower};
 ghost use Rattle.node_storage.specs.Does.{Reads, Spends, SpendsOne, SyncsOnce};
 ghost use Rattle.node_storage.specs.Ends.{end_of_boot};
 ghost use Rattle.host_jobs.specs.Seen.{counting};
-ghost use Rattle.host_jobs.specs.Soundness.{IsKept};
+ghost use Rattle.host_jobs.specs.Soundness.{IsDerived};
 ghost use Rattle.host_node.specs.Payloads.{IsDamaged};
 ghost use Rattle.host_node.specs.Table.{host_table};
 ghost use Rattle.row_node.specs.Boots.{AllShowSound};
@@ -62,7 +62,7 @@ impl<N: Nv> Host<N> {
 
     /// What is kept of them.
     pub(crate) fn kept(&self) -> &Kept
-        ensures { IsKept (rows_of self.now) result.now }
+        ensures { IsDerived (rows_of self.now) result.now }
     {
         self.rows.node().kept()
     }

@@ -14,7 +14,7 @@ use Rattle.bench_base.specs.Ranges.{InRange}
 use Rattle.bench_base.specs.Cells.{is_worn}
 use Rattle.bench_base.specs.Ledger.{Ledger, counted, is_on, day_in}
 use Rattle.ledger_terms.specs.Sane.{IsSane}
-use Rattle.bench_base.specs.Replies.{Told, LostPower, Faulted, PrinterFailed, told_by}
+use Rattle.bench_base.specs.Replies.{ReplyClass, LostPower, Faulted, PrinterFailed, class_of}
 use Rattle.bench_base.proofs.Facts.{some_none}
 use Rattle.node_acts.specs.Plans.{with_commit, with_torn, after, after_told, MayFail, Fails, FailsTold}
 use Rattle.ledger_moves.specs.Moves.{OtherUp, FailsToRead, unless_worn, at_node}
@@ -91,14 +91,14 @@ module _ (ρ : Rules) (H : Ledger) (i : Inv ρ H) where
   other_up : (p : Plan) (was x : Reply) → OtherUp was x H → Inv ρ (after p x H)
   other_up p was x h = subst (λ (y : Reply). Inv ρ (after p y H)) (sym h.more) (inv_up ρ H h.node (h.count + 1) i)
 
-  fails_told : (p : Plan) → PlanOk ρ H p → (x : Told) → FailsTold p x → Inv ρ (after_told p x H)
+  fails_told : (p : Plan) → PlanOk ρ H p → (x : ReplyClass) → FailsTold p x → Inv ρ (after_told p x H)
   fails_told p ok (LostPower n) h = failed p ok n h
   fails_told p ok (Faulted n) h = failed p ok n h
   fails_told p ok (PrinterFailed j) h = committed p.commit ok.fit
   fails_told p ok _ h = absurd h
 
   fails : (p : Plan) → PlanOk ρ H p → (x : Reply) → Fails p x → Inv ρ (after p x H)
-  fails p ok x h = fails_told p ok (told_by x) h
+  fails p ok x h = fails_told p ok (class_of x) h
 
   unread : (p : Plan) (x : Event) (y : Reply) (day : Option ℤ) → FailsToRead x y day → Inv ρ (after p y H)
   unread p x y day h = subst (λ (z : Reply). Inv ρ (after p z H)) (sym h.reply_is) i

@@ -2,18 +2,18 @@
 use Rattle.std.proofs.Common.{inl, inr, ℕ, ◌≤◌, ◌<◌, List, [], ◌∷◌, ◌++◌, refl, subst, arith}
 use Rattle.bench_base.specs.declared.events.Event.{Event}
 use Rattle.node_turns.specs.declared.turn.Turn.{Turn}
-use Rattle.line_extensions.specs.Deeds.{Done}
+use Rattle.line_extensions.specs.Trace.{StepRecord}
 use Rattle.line_extensions.specs.Desks.{World, Asked, Asks}
-use Rattle.line_extensions.specs.declared.desk.Desk.{Ghosts}
-use Rattle.line_extensions.specs.declared.desk.Next.{Next}
-use Rattle.line_extensions.specs.declared.desk.Next.TheVariants.{Step}
+use Rattle.line_extensions.specs.declared.extension.Extension.{Ghosts}
+use Rattle.line_extensions.specs.declared.extension.Next.{Next}
+use Rattle.line_extensions.specs.declared.extension.Next.TheVariants.{Step}
 use Rattle.line_extensions.specs.Wants.{IsQuiet, MayAsk, IsStep}
 
-module _ {K T : Type 0} (k : Ghosts K T) {B : Type 0} (Steps : B → B → Done → Turn → Type 0) where
+module _ {K T : Type 0} (k : Ghosts K T) {B : Type 0} (Steps : B → B → StepRecord → Turn → Type 0) where
   pub asks_none : (w : World B K) (next : Next) → Asks k Steps w w next [] next
   asks_none w next = (refl, refl)
 
-  pub asks_more : (x y z : World B K) (first next last : Next) (steps : List Done) (d : Done) → Asks k Steps x y first steps next → Asked k Steps y z next d last → Asks k Steps x z first (steps ++ d ∷ []) last
+  pub asks_more : (x y z : World B K) (first next last : Next) (steps : List StepRecord) (d : StepRecord) → Asks k Steps x y first steps next → Asked k Steps y z next d last → Asks k Steps x z first (steps ++ d ∷ []) last
   asks_more x y z first next last [] d p q =
       let from : Asked k Steps x z first d last = subst (λ (w : World B K). Asked k Steps w z first d last) p.1 (subst (λ (m : Next). Asked k Steps y z m d last) p.0 q) in
       (z, last, from, (refl, refl))

@@ -6,34 +6,34 @@ use Rattle.bench_base.specs.declared.events.Event.TheVariants as ev
 use Rattle.bench_base.specs.Ranges.{IsWholeEvent}
 use Rattle.node_turns.specs.declared.turn.Turn.{Turn}
 use Rattle.script_text.specs.Grammar.{Spells, IsSkipped}
-use Rattle.script_text.specs.Told.{IsWholeReply}
+use Rattle.script_text.specs.ReplyRanges.{IsWholeReply}
 use Rattle.line_runs.specs.Lines.{ended}
 use Rattle.line_runs.specs.Turns.{Reported, LineEnd}
 use Rattle.line_runs.specs.declared.status.Status.TheVariants as status
 use Rattle.line_runs.specs.declared.status.SideStatus.{SideStatus}
 use Rattle.line_runs.specs.declared.status.SideStatus.TheVariants.{Run, Stopped}
-use Rattle.line_extensions.specs.Deeds.{Done, Skipped, Did, line_of}
+use Rattle.line_extensions.specs.Trace.{StepRecord, Skipped, Did, line_of}
 use Rattle.line_extensions.specs.Desks.{World, world, SideLeaves, side_lines, Asks, Does}
 use Rattle.line_extensions.specs.Events.{IsLineOf}
-use Rattle.line_extensions.specs.SideDeeds.{Plain, Own, Broken}
+use Rattle.line_extensions.specs.SideTrace.{Plain, Own, Broken}
 use Rattle.line_extensions.specs.Wants.{IsEvent}
-use Rattle.line_extensions.specs.declared.desk.Desk.{Ghosts}
-use Rattle.line_extensions.specs.declared.desk.Next.{Next}
-use Rattle.line_extensions.specs.declared.desk.Next.TheVariants.{Say, Stop}
+use Rattle.line_extensions.specs.declared.extension.Extension.{Ghosts}
+use Rattle.line_extensions.specs.declared.extension.Next.{Next}
+use Rattle.line_extensions.specs.declared.extension.Next.TheVariants.{Say, Stop}
 
-module _ {K T : Type 0} (k : Ghosts K T) {B : Type 0} (Steps : B → B → Done → Turn → Type 0) (Wants : B → B → Type 0) (number : ℕ) (line : List ℕ) where
+module _ {K T : Type 0} (k : Ghosts K T) {B : Type 0} (Steps : B → B → StepRecord → Turn → Type 0) (Wants : B → B → Type 0) (number : ℕ) (line : List ℕ) where
   abbrev pub End : Option SideStatus → World B K → World B K → Option (List ℕ) → Option (List ℕ) → Type 0
   End outcome old new taken0 taken1 = LineEnd (side_lines k) (Does k Steps) (SideLeaves Wants) number line outcome old new taken0 taken1
 
   pub skipped : (w : World B K) (taken : Option (List ℕ)) → IsSkipped line → End None w w taken taken
-  skipped w taken is = LineEnd.did (record { deed = Plain (Skipped line); line_is = refl; is = is; did = (w, refl, refl); reported = (tt, Appends-nil taken) })
+  skipped w taken is = LineEnd.did (record { trace_step = Plain (Skipped line); line_is = refl; is = is; did = (w, refl, refl); reported = (tt, Appends-nil taken) })
 
   -- the desk answered
-  pub answered : (outcome : Option SideStatus) (b : B) (desk mid : K) (new : World B K) (taken0 taken1 : Option (List ℕ)) (own : k.Own) (first last : Next) (steps : List Done) → k.IsOwn own line
+  pub answered : (outcome : Option SideStatus) (b : B) (desk mid : K) (new : World B K) (taken0 taken1 : Option (List ℕ)) (own : k.Own) (first last : Next) (steps : List StepRecord) → k.IsOwn own line
       → k.Begins desk own first mid → Asks k Steps (world b mid) new first steps last → last ≡ Say → Reported outcome (Unit {0}) ⊥ ⊥ (flat_map ended (k.texts new.desk)) taken0 taken1
       → End outcome (world b desk) new taken0 taken1
   answered outcome b desk mid new taken0 taken1 own first last steps is begins asks say reported = LineEnd.did (record {
-    deed = Own line own steps (k.texts new.desk);
+    trace_step = Own line own steps (k.texts new.desk);
     line_is = refl;
     is = is;
     did = (new, record { did = record { first = first; desk = mid; begins = begins; asks = subst (λ (n : Next). Asks k Steps (world b mid) new first steps n) say asks }; answer = refl }, refl);
@@ -41,10 +41,10 @@ module _ {K T : Type 0} (k : Ghosts K T) {B : Type 0} (Steps : B → B → Done 
   })
 
   -- a commit of its storage failed
-  pub broken : (b : B) (desk mid : K) (new : World B K) (taken : Option (List ℕ)) (own : k.Own) (first last : Next) (steps : List Done) → k.IsOwn own line → k.Begins desk own first mid
+  pub broken : (b : B) (desk mid : K) (new : World B K) (taken : Option (List ℕ)) (own : k.Own) (first last : Next) (steps : List StepRecord) → k.IsOwn own line → k.Begins desk own first mid
       → Asks k Steps (world b mid) new first steps last → last ≡ Stop → End (Some Stopped) (world b desk) new taken taken
   broken b desk mid new taken own first last steps is begins asks stop = LineEnd.did (record {
-    deed = Broken line own steps;
+    trace_step = Broken line own steps;
     line_is = refl;
     is = is;
     did = (new, record { first = first; desk = mid; begins = begins; asks = subst (λ (n : Next). Asks k Steps (world b mid) new first steps n) stop asks }, refl);
@@ -67,7 +67,7 @@ module _ {K T : Type 0} (k : Ghosts K T) {B : Type 0} (Steps : B → B → Done 
 
   -- an event that the desk left to the bench
   pub plain : (outcome : Option SideStatus) (old new : B) (desk mid now : K) (taken0 taken1 : Option (List ℕ)) (e : Event) → IsLineOf e line → k.Passes desk line → mid ≡ desk
-      → (outcome ≢ Some (Run status.Memory) → (d : Done) × (turn : Turn) × (d.event ≡ e) × Steps old new d turn × k.Sees mid e turn now × IsWholeReply d.reply × Reported outcome (e ≢ ev.End) (e ≡ ev.End) ⊥ (line_of d.reply) taken0 taken1)
+      → (outcome ≢ Some (Run status.Memory) → (d : StepRecord) × (turn : Turn) × (d.event ≡ e) × Steps old new d turn × k.Sees mid e turn now × IsWholeReply d.reply × Reported outcome (e ≢ ev.End) (e ≡ ev.End) ⊥ (line_of d.reply) taken0 taken1)
       → (outcome ≡ Some (Run status.Memory) → (e ≡ ev.Rates) × Wants old new × (taken1 ≡ taken0) × (now ≡ mid))
       → End outcome (world old desk) (world new now) taken0 taken1
   plain outcome old new desk mid now taken0 taken1 e is passes same done wanted = elim (wants_memory outcome) [
@@ -77,7 +77,7 @@ module _ {K T : Type 0} (k : Ghosts K T) {B : Type 0} (Steps : B → B → Done 
     | inr other ↦
         let w = done other in
         LineEnd.did (record {
-          deed = Plain (Did line w.0);
+          trace_step = Plain (Did line w.0);
           line_is = refl;
           is = (subst (λ (x : Event). IsLineOf x line) (sym w.2) is, w.5);
           did = (world new now, record { passes = passes; turn = w.1; did = w.3; sees = subst (λ (x : Event). k.Sees desk x w.1 now) (sym w.2) (subst (λ (d : K). k.Sees d e w.1 now) same w.4) }, refl);

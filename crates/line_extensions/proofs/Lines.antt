@@ -1,18 +1,18 @@
--- A run with a desk stops at the line at which a commit of the desk's storage failed, which is the last; and each line is what its deed says.
+-- A run with a desk stops at the line at which a commit of the desk's storage failed, which is the last; and each line is what its step says.
 use Rattle.std.proofs.Common.{◌≡◌, ◌↔◌, ◌<◌, inl, inr, List, [], ◌∷◌, ◌++◌, length, refl, sym, ap, ◌∙◌, subst, arith, Option, ℕ}
 use Rattle.std.specs.List.{AllByRecursion}
-use Rattle.line_runs.specs.Deeds.{Lines, Reads}
+use Rattle.line_runs.specs.Trace.{Lines, Reads}
 use Rattle.line_runs.specs.Lines.{IsCutOff}
 use Rattle.line_runs.specs.Runs.{EndsIn, Replayed}
 use Rattle.line_runs.specs.declared.status.Status.TheVariants as status
 use Rattle.line_runs.specs.declared.status.SideStatus.{SideStatus}
 use Rattle.line_runs.specs.declared.status.SideStatus.TheVariants.{Run, Stopped}
 use Rattle.line_extensions.specs.Desks.{side_lines}
-use Rattle.line_extensions.specs.SideDeeds.{SideDeed, Plain, Own, Broken, IsBroken}
-use Rattle.line_extensions.specs.declared.desk.Desk.{Ghosts}
+use Rattle.line_extensions.specs.SideTrace.{SideStep, Plain, Own, Broken, IsBroken}
+use Rattle.line_extensions.specs.declared.extension.Extension.{Ghosts}
 use Rattle.line_extensions.specs.Stops.{HasBroken}
 
--- == each line of a run is what its deed says ==
+-- == each line of a run is what its step says ==
 
 module _ {D : Type 0} (l : Lines D) where
   only_read : (done : List D) (last : D) → done ≡ last ∷ [] → Reads l last → AllByRecursion (Reads l) done
@@ -40,7 +40,7 @@ module _ {D : Type 0} (l : Lines D) where
 -- == where a commit failed ==
 
 -- a line at which one failed is the last
-abbrev pub BrokenLast : {L : Type 0} → List (SideDeed L) → Type 0
+abbrev pub BrokenLast : {L : Type 0} → List (SideStep L) → Type 0
 BrokenLast [] = Unit {0}
 BrokenLast (Plain d ∷ rest) = BrokenLast rest
 BrokenLast (Own line own steps texts ∷ rest) = BrokenLast rest
@@ -48,7 +48,7 @@ BrokenLast (Broken line own steps ∷ rest) = rest ≡ []
 
 module _ {K T : Type 0} (k : Ghosts K T) where
   abbrev Side : Type 0
-  Side = SideDeed k.Own
+  Side = SideStep k.Own
 
   abbrev Read : Lines Side
   Read = side_lines k
@@ -132,21 +132,21 @@ module _ {K T : Type 0} (k : Ghosts K T) where
       subst (λ (x : List Side). LastBreaks Stopped x) (sym is.0.only) (record { last = one_last is.0.last; stopped = λ e. is_broken is.0.last is.1; only = λ broke. refl })
 
   -- a run is stopped at a line at which a commit failed, which is the last
-  pub record AtLast (outcome : SideStatus) (deeds : List Side) : Type 0 where
-    pub last : BrokenLast deeds
-    pub stops : (outcome ≡ Stopped) ↔ HasBroken deeds
+  pub record AtLast (outcome : SideStatus) (trace : List Side) : Type 0 where
+    pub last : BrokenLast trace
+    pub stops : (outcome ≡ Stopped) ↔ HasBroken trace
 
-  at_last : (outcome : SideStatus) (deeds done : List Side) → AllByRecursion Read.GoesOn deeds → LastBreaks outcome done → AtLast outcome (deeds ++ done)
-  at_last outcome deeds done goes breaks = record {
-    last = goes_last deeds done goes breaks.last;
-    stops = (λ is. later_broken deeds done (breaks.stopped is), λ broke. breaks.only (either_broken deeds done goes broke));
+  at_last : (outcome : SideStatus) (trace done : List Side) → AllByRecursion Read.GoesOn trace → LastBreaks outcome done → AtLast outcome (trace ++ done)
+  at_last outcome trace done goes breaks = record {
+    last = goes_last trace done goes breaks.last;
+    stops = (λ is. later_broken trace done (breaks.stopped is), λ broke. breaks.only (either_broken trace done goes broke));
   }
 
-  -- the same deeds, with more said of them by their lines
+  -- the same steps, with more said of them by their lines
   pub said_of_lines : (P Q : List Side → Type 0) (outcome : SideStatus) (a b t u : Option (List ℕ))
-      → ((deeds : List Side) → AllByRecursion (Reads Read) deeds → AtLast outcome deeds → P deeds → Q deeds) → Replayed Read outcome P a b t u → Replayed Read outcome Q a b t u
+      → ((trace : List Side) → AllByRecursion (Reads Read) trace → AtLast outcome trace → P trace → Q trace) → Replayed Read outcome P a b t u → Replayed Read outcome Q a b t u
   said_of_lines P Q outcome a b t u more r = record {
-    deeds = r.deeds;
+    trace = r.trace;
     each = r.each;
     go_on = r.go_on;
     rest = r.rest;
@@ -156,8 +156,8 @@ module _ {K T : Type 0} (k : Ghosts K T) where
     ends = r.ends;
     consumed = r.consumed;
     appended = r.appended;
-    did = more (r.deeds ++ r.done) (both_read Read r.deeds r.done r.each (last_read Read outcome _ _ _ _ r.done r.ends))
-        (at_last outcome r.deeds r.done r.go_on (last_breaks outcome _ _ _ _ r.done r.ends)) r.did;
+    did = more (r.trace ++ r.done) (both_read Read r.trace r.done r.each (last_read Read outcome _ _ _ _ r.done r.ends))
+        (at_last outcome r.trace r.done r.go_on (last_breaks outcome _ _ _ _ r.done r.ends)) r.did;
   }
 
   pub nothing_done : (outcome : SideStatus) → outcome ≡ Run status.Words → AtLast outcome []

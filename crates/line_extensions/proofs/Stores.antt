@@ -14,7 +14,7 @@ use Rattle.row_store.specs.Commits.{CommitsRow}
 use Rattle.row_store.specs.Seen.{ReadsAs}
 use Rattle.line_runs.specs.declared.status.SideStatus.{SideStatus}
 use Rattle.line_runs.specs.declared.status.SideStatus.TheVariants.{Stopped}
-use Rattle.line_extensions.specs.SideDeeds.{SideDeed}
+use Rattle.line_extensions.specs.SideTrace.{SideStep}
 use Rattle.line_extensions.specs.Stops as stops
 use Rattle.line_extensions.specs.Stops.{HasBroken, RowCommit, DeskView, rows_seen, meters_seen, row_view}
 
@@ -203,14 +203,14 @@ module _ {N R : Type 0} (g : nv.Ghosts N) (decoded : ℕ → List ℕ → Option
 
   module _ {L : Type 0} where
     -- how lines end: no commit failed, or one did in the last
-    abbrev pub Ends : View → View → List (SideDeed L) → Option (RowCommit R) → Type 0
-    Ends old new deeds commit = (Goes old new × (HasBroken deeds → ⊥) × (commit ≡ None)) ⊎ (HasBroken deeds × (c : RowCommit R) × (commit ≡ Some c) × Breaks c old new)
+    abbrev pub Ends : View → View → List (SideStep L) → Option (RowCommit R) → Type 0
+    Ends old new trace commit = (Goes old new × (HasBroken trace → ⊥) × (commit ≡ None)) ⊎ (HasBroken trace × (c : RowCommit R) × (commit ≡ Some c) × Breaks c old new)
 
-    module _ (old new : View) (outcome : SideStatus) (deeds : List (SideDeed L)) (stops_at : (outcome ≡ Stopped) ↔ HasBroken deeds) where
+    module _ (old new : View) (outcome : SideStatus) (trace : List (SideStep L)) (stops_at : (outcome ≡ Stopped) ↔ HasBroken trace) where
       abbrev Leaves : Option (RowCommit R) → Type 0
-      Leaves commit = stops.LeavesStorage g decoded size cells old new outcome deeds commit
+      Leaves commit = stops.LeavesStorage g decoded size cells old new outcome trace commit
 
-      went_well : (new.failed ≡ false → g.tells → (i : List ℕ) → Image (g.times new.storage) i → Shows (rows new) i) → Goes old new → (HasBroken deeds → ⊥) → Leaves None
+      went_well : (new.failed ≡ false → g.tells → (i : List ℕ) → Image (g.times new.storage) i → Shows (rows new) i) → Goes old new → (HasBroken trace → ⊥) → Leaves None
       went_well shown goes none = record {
         stops = stops_at;
         which = (λ is. absurd (none (stops_at.0 is)), λ some. absurd (true≢false (sym some)));
@@ -226,7 +226,7 @@ module _ {N R : Type 0} (g : nv.Ghosts N) (decoded : ℕ → List ℕ → Option
         shows = λ tells works i image. inl (shown (goes.failed ∙ works) tells i image);
       }
 
-      broke_by : (b : Bool) (c : RowCommit R) → old.failed ≡ b → BreaksBy b c old new → new.failed ≡ true → HasBroken deeds → Leaves (Some c)
+      broke_by : (b : Bool) (c : RowCommit R) → old.failed ≡ b → BreaksBy b c old new → new.failed ≡ true → HasBroken trace → Leaves (Some c)
       broke_by true c was by failed broke = record {
         stops = stops_at;
         which = (λ is. refl, λ some. stops_at.1 broke);
@@ -244,6 +244,6 @@ module _ {N R : Type 0} (g : nv.Ghosts N) (decoded : ℕ → List ℕ → Option
         shows = λ tells works i image. by.shows tells i image;
       }
 
-      pub leaves : (new.failed ≡ false → g.tells → (i : List ℕ) → Image (g.times new.storage) i → Shows (rows new) i) → (commit : Option (RowCommit R)) → Ends old new deeds commit → Leaves commit
+      pub leaves : (new.failed ≡ false → g.tells → (i : List ℕ) → Image (g.times new.storage) i → Shows (rows new) i) → (commit : Option (RowCommit R)) → Ends old new trace commit → Leaves commit
       leaves shown commit (inl goes) = subst (λ (o : Option (RowCommit R)). Leaves o) (sym goes.2) (went_well shown goes.0 goes.1)
       leaves shown commit (inr broke) = subst (λ (o : Option (RowCommit R)). Leaves o) (sym broke.2) (broke_by old.failed broke.1 refl broke.3.by broke.3.failed broke.0)

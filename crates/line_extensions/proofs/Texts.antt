@@ -1,11 +1,11 @@
--- Texts in a row, and a front of them.
+-- Texts in a row, and a prefix of them.
 use Rattle.std.proofs.Common.{◌≡◌, ℕ, ◌+◌, ◌<◌, List, [], ◌∷◌, ◌++◌, length, take, drop, flat_map, Some, refl, sym, ap, ◌∙◌, arith, append_assoc, append-nil, take-append-drop, suc, zero, add-one}
 use Rattle.std.specs.Prelude.{slice_get}
 use Rattle.std.proofs.lemmas.Grind.{flat_map-append}
 use Rattle.std.proofs.lemmas.List.{length-drop, length-append}
 use Rattle.line_runs.specs.Lines.{IsCutOff, ended}
 
--- a front of the bytes that isn't all of them
+-- a prefix of the bytes that isn't all of them
 pub cut_off : (bytes text : List ℕ) (n : ℕ) → n < length bytes → bytes ≡ text → IsCutOff (take n bytes) text
 cut_off bytes text n short is =
     (drop n bytes, sym is ∙ sym (take-append-drop n bytes), omega (arith, length-drop n bytes))
@@ -21,7 +21,7 @@ pub more_texts : (texts : List (List ℕ)) (k : ℕ) (t : List ℕ) → slice_ge
 more_texts texts k t at = let w = split_at texts k t at in
     ap (λ n. flat_map ended (take n texts)) (add-one k) ∙ ap (λ l. flat_map ended l) w.2 ∙ flat_map-append ended (take k texts) (t ∷ []) ∙ ap (λ l. flat_map ended (take k texts) ++ l) (append-nil (ended t))
 
--- the texts so far, and a front of the next one
+-- the texts so far, and a prefix of the next one
 pub texts_cut : (texts : List (List ℕ)) (k n : ℕ) (t : List ℕ) → slice_get texts k ≡ Some t → n < length (ended t) → IsCutOff (flat_map ended (take k texts) ++ take n (ended t)) (flat_map ended texts)
 texts_cut texts k n t at short =
     let w = split_at texts k t at in

@@ -5,12 +5,12 @@ use Rattle.node_turns.specs.declared.turn.Turn.{Turn}
 use Rattle.line_runs.specs.declared.status.Status.TheVariants as status
 use Rattle.line_runs.specs.declared.status.SideStatus.{SideStatus}
 use Rattle.line_runs.specs.declared.status.SideStatus.TheVariants.{Run, Stopped}
-use Rattle.line_extensions.specs.Deeds.{Done}
+use Rattle.line_extensions.specs.Trace.{StepRecord}
 use Rattle.line_extensions.specs.Desks.{World, SideLeaves, Asks}
 use Rattle.line_extensions.specs.Wants.{IsStep}
-use Rattle.line_extensions.specs.declared.desk.Desk.{Ghosts}
-use Rattle.line_extensions.specs.declared.desk.Next.{Next}
-use Rattle.line_extensions.specs.declared.desk.Next.TheVariants.{Step, Say, Stop}
+use Rattle.line_extensions.specs.declared.extension.Extension.{Ghosts}
+use Rattle.line_extensions.specs.declared.extension.Next.{Next}
+use Rattle.line_extensions.specs.declared.extension.Next.TheVariants.{Step, Say, Stop}
 
 -- == what is wanted, by its kind ==
 
@@ -33,14 +33,14 @@ step_event z Say = z
 step_event z Stop = z
 
 -- what is wanted first is wanted last where it is no step
-pub ends_at : {B K T : Type 0} (k : Ghosts K T) (Steps : B → B → Done → Turn → Type 0) (old new : World B K) (next : Next) (steps : List Done) (last : Next) → Asks k Steps old new next steps last
+pub ends_at : {B K T : Type 0} (k : Ghosts K T) (Steps : B → B → StepRecord → Turn → Type 0) (old new : World B K) (next : Next) (steps : List StepRecord) (last : Next) → Asks k Steps old new next steps last
     → (next ≡ Say) ⊎ (next ≡ Stop) → (steps ≡ []) × (last ≡ next) × (new ≡ old)
 ends_at k Steps old new next [] last asks none = (refl, asks.0, asks.1)
 ends_at k Steps old new next (d ∷ rest) last asks none = absurd (no_step next none (subst (λ (x : Next). IsStep x) (sym asks.2.asks) tt))
 
 -- == the end of a run ==
 
--- it leaves the desk as the deeds left it
+-- it leaves the desk as the steps left it
 pub desk_left : {B K : Type 0} (Wants : B → B → Type 0) (s : SideStatus) (behind now : World B K) → SideLeaves Wants s behind now → now.desk ≡ behind.desk
 desk_left Wants (Run status.Done) behind now is = ap (λ w. w.desk) is
 desk_left Wants (Run status.Words) behind now is = ap (λ w. w.desk) is

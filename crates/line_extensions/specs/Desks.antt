@@ -3,17 +3,17 @@
 use Rattle.std.specs.Prelude.{◌≡◌, ◌⊎◌, ℕ, List, [], ◌∷◌}
 use Rattle.bench_base.specs.declared.events.Event.TheVariants as ev
 use Rattle.node_turns.specs.declared.turn.Turn.{Turn}
-use Rattle.line_runs.specs.Deeds.{Grammar, Lines}
+use Rattle.line_runs.specs.Trace.{Grammar, Lines}
 use Rattle.line_runs.specs.declared.status.Status.TheVariants as status
 use Rattle.line_runs.specs.declared.status.SideStatus.{SideStatus}
 use Rattle.line_runs.specs.declared.status.SideStatus.TheVariants.{Run, Stopped}
-use Rattle.line_extensions.specs.Deeds.{Done, Skipped, Did}
+use Rattle.line_extensions.specs.Trace.{StepRecord, Skipped, Did}
 use Rattle.line_extensions.specs.Events.{IsLineOf}
 use Rattle.line_extensions.specs.Scripts.{script_grammar}
-use Rattle.line_extensions.specs.SideDeeds.{SideDeed, Plain, Own, Broken, side_line, side_text, SideIsOf, SideIsEnd, SideGoesOn, IsBroken}
-use Rattle.line_extensions.specs.declared.desk.Desk.{Ghosts}
-use Rattle.line_extensions.specs.declared.desk.Next.{Next}
-use Rattle.line_extensions.specs.declared.desk.Next.TheVariants.{Step, Say, Stop}
+use Rattle.line_extensions.specs.SideTrace.{SideStep, Plain, Own, Broken, side_line, side_text, SideIsOf, SideIsEnd, SideGoesOn, IsBroken}
+use Rattle.line_extensions.specs.declared.extension.Extension.{Ghosts}
+use Rattle.line_extensions.specs.declared.extension.Next.{Next}
+use Rattle.line_extensions.specs.declared.extension.Next.TheVariants.{Step, Say, Stop}
 
 pub record World (B K : Type 0) : Type 0 where
   pub scene : B
@@ -43,7 +43,7 @@ module _ {K T : Type 0} (k : Ghosts K T) where
     MayWant = λ line. IsLineOf ev.Rates line ⊎ ((own : k.Own) × k.IsOwn own line × k.MayWant own);
   }
 
-  abbrev pub side_lines : Lines (SideDeed k.Own)
+  abbrev pub side_lines : Lines (SideStep k.Own)
   side_lines = record {
     grammar = side_grammar;
     line_in = λ d. side_line d;
@@ -54,42 +54,42 @@ module _ {K T : Type 0} (k : Ghosts K T) where
     IsBroken = λ d. IsBroken d;
   }
 
-  module _ {B : Type 0} (Steps : B → B → Done → Turn → Type 0) where
+  module _ {B : Type 0} (Steps : B → B → StepRecord → Turn → Type 0) where
     -- the desk asked for a step, the bench did it and told it, and the desk went on
-    pub record Asked (old new : World B K) (next : Next) (d : Done) (more : Next) : Type 0 where
+    pub record Asked (old new : World B K) (next : Next) (d : StepRecord) (more : Next) : Type 0 where
       pub asks : next ≡ Step d.event
       pub turn : Turn
       pub did : Steps old.scene new.scene d turn
       pub goes : k.Goes old.desk turn more new.desk
 
     -- from what it wanted first to what it wants last these steps were done
-    abbrev pub Asks : World B K → World B K → Next → List Done → Next → Type 0
+    abbrev pub Asks : World B K → World B K → Next → List StepRecord → Next → Type 0
     Asks old new next [] last = (last ≡ next) × (new ≡ old)
     Asks old new next (d ∷ rest) last = (mid : World B K) × (more : Next) × Asked old mid next d more × Asks mid new more rest last
 
-    pub record DidOwn (old new : World B K) (own : k.Own) (steps : List Done) (last : Next) : Type 0 where
+    pub record DidOwn (old new : World B K) (own : k.Own) (steps : List StepRecord) (last : Next) : Type 0 where
       pub first : Next
       pub desk : K
       pub begins : k.Begins old.desk own first desk
       pub asks : Asks (world old.scene desk) new first steps last
 
-    pub record DidPlain (old new : World B K) (line : List ℕ) (d : Done) : Type 0 where
+    pub record DidPlain (old new : World B K) (line : List ℕ) (d : StepRecord) : Type 0 where
       pub passes : k.Passes old.desk line
       pub turn : Turn
       pub did : Steps old.scene new.scene d turn
       pub sees : k.Sees old.desk d.event turn new.desk
 
     -- the answer is the desk's
-    pub record Answered (old new : World B K) (own : k.Own) (steps : List Done) (texts : List (List ℕ)) : Type 0 where
+    pub record Answered (old new : World B K) (own : k.Own) (steps : List StepRecord) (texts : List (List ℕ)) : Type 0 where
       pub did : DidOwn old new own steps Say
       pub answer : texts ≡ k.texts new.desk
 
-    abbrev pub DoesOne : World B K → World B K → SideDeed k.Own → Type 0
+    abbrev pub DoesOne : World B K → World B K → SideStep k.Own → Type 0
     DoesOne old new (Plain (Skipped line)) = new ≡ old
     DoesOne old new (Plain (Did line d)) = DidPlain old new line d
     DoesOne old new (Own line own steps texts) = Answered old new own steps texts
     DoesOne old new (Broken line own steps) = DidOwn old new own steps Stop
 
-    abbrev pub Does : World B K → World B K → List (SideDeed k.Own) → Type 0
+    abbrev pub Does : World B K → World B K → List (SideStep k.Own) → Type 0
     Does old new [] = new ≡ old
     Does old new (x ∷ rest) = (mid : World B K) × DoesOne old mid x × Does mid new rest

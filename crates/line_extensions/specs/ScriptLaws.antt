@@ -5,8 +5,8 @@ use Rattle.bench_base.specs.declared.events.Event.TheVariants as event
 use Rattle.script_words.specs.Words.{joined}
 use Rattle.script_text.specs.Grammar.{Spells, IsSkipped}
 use Rattle.script_text.proofs.EventsBack.{one_event_of, no_event_skipped}
-use Rattle.line_runs.specs.Deeds.{IsGrammar, FitsGrammar}
-use Rattle.line_extensions.specs.Deeds.{Done, Deed, Skipped, Did, done_in, IsOf, IsEnd, GoesOn, line_in}
+use Rattle.line_runs.specs.Trace.{IsGrammar, FitsGrammar}
+use Rattle.line_extensions.specs.Trace.{StepRecord, TraceStep, Skipped, Did, done_in, IsOf, IsEnd, GoesOn, line_in}
 use Rattle.line_extensions.specs.Events.{IsLineOf, IsBad}
 use Rattle.line_extensions.specs.Scripts.{script_grammar, script_lines}
 
@@ -43,11 +43,11 @@ is_grammar = record {
   end_wants_none = end_wants_none;
 }
 
-passing : (d : Deed) → IsOf d → GoesOn d → IsPassing (line_in d)
+passing : (d : TraceStep) → IsOf d → GoesOn d → IsPassing (line_in d)
 passing (Skipped line) is goes = inl is
 passing (Did line d) is goes = inr (d.event, is.0, goes)
 
-ending : (d : Deed) → IsOf d → IsEnd d → IsEndLine (line_in d)
+ending : (d : TraceStep) → IsOf d → IsEnd d → IsEndLine (line_in d)
 ending (Skipped line) is end = absurd end
 ending (Did line d) is end = subst (λ (y : Event). Spells y line) end is.0.spells
 
@@ -55,7 +55,7 @@ pub script_fits : FitsGrammar script_lines
 script_fits = record { grammar = is_grammar; goes_on = passing; ends = ending }
 
 -- what was done for some lines and more
-pub done_both : (a b : List Deed) → done_in (a ++ b) ≡ done_in a ++ done_in b
+pub done_both : (a b : List TraceStep) → done_in (a ++ b) ≡ done_in a ++ done_in b
 done_both [] b = refl
 done_both (Skipped line ∷ a) b = done_both a b
-done_both (Did line d ∷ a) b = ap (λ (l : List Done). d ∷ l) (done_both a b)
+done_both (Did line d ∷ a) b = ap (λ (l : List StepRecord). d ∷ l) (done_both a b)

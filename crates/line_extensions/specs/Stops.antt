@@ -11,10 +11,10 @@ use Rattle.row_store.specs.Commits.{RowView}
 use Rattle.row_store.specs.Seen.{ReadsAs, seen_in}
 use Rattle.line_runs.specs.declared.status.SideStatus.{SideStatus}
 use Rattle.line_runs.specs.declared.status.SideStatus.TheVariants.{Stopped}
-use Rattle.line_extensions.specs.SideDeeds.{SideDeed, Plain, Own, Broken}
+use Rattle.line_extensions.specs.SideTrace.{SideStep, Plain, Own, Broken}
 
 -- one of the lines is one at which a commit of the desk's failed
-abbrev pub HasBroken : {L : Type 0} → List (SideDeed L) → Type 0
+abbrev pub HasBroken : {L : Type 0} → List (SideStep L) → Type 0
 HasBroken [] = ⊥
 HasBroken (Plain d ∷ rest) = HasBroken rest
 HasBroken (Own line own steps texts ∷ rest) = HasBroken rest
@@ -60,9 +60,9 @@ module _ {N R : Type 0} (g : Ghosts N) (decoded : ℕ → List ℕ → Option R)
         × ShowsRows size cells (ReadsAs decoded) (with_commit (Some c) (rows_seen old)) i)
 
   -- Whether a commit failed, and which; why; and what each image of the storage shows, which has cells of this size.
-  pub record LeavesStorage {L : Type 0} (size cells : ℕ) (old new : DeskView N) (outcome : SideStatus) (deeds : List (SideDeed L)) (commit : Option (RowCommit R)) : Type 0 where
+  pub record LeavesStorage {L : Type 0} (size cells : ℕ) (old new : DeskView N) (outcome : SideStatus) (trace : List (SideStep L)) (commit : Option (RowCommit R)) : Type 0 where
     -- the run was stopped if and only if one failed
-    pub stops : (outcome ≡ Stopped) ↔ HasBroken deeds
+    pub stops : (outcome ≡ Stopped) ↔ HasBroken trace
     pub which : (outcome ≡ Stopped) ↔ IsSome commit
     pub failed : (new.failed ≡ true) ↔ ((old.failed ≡ true) ⊎ (outcome ≡ Stopped))
     -- where one had failed before, this one answered Failed, and nothing was written

@@ -5,8 +5,8 @@ use Rattle.bench_base.specs.declared.events.Event.TheVariants as ev
 use Rattle.bench_base.specs.Ranges.{IsWholeEvent}
 use Rattle.script_text.specs.Grammar.{Spells, IsSkipped}
 use Rattle.line_extensions.specs.Events.{IsLineOf}
-use Rattle.line_extensions.specs.declared.desk.Next.{Next}
-use Rattle.line_extensions.specs.declared.desk.Next.TheVariants.{Step, Say, Stop}
+use Rattle.line_extensions.specs.declared.extension.Next.{Next}
+use Rattle.line_extensions.specs.declared.extension.Next.TheVariants.{Step, Say, Stop}
 
 -- an event that sends nothing, whatever the storages tell: a scan of bytes
 abbrev pub IsQuiet : Event → Type 0

@@ -1,13 +1,13 @@
 //! A desk beside a bench: who has lines of its own in a script, and does them by steps that it asks for.
 #![tactic(auto)]
 
-mod desk;
+mod extension;
 mod hear;
 mod replying;
 mod side;
 mod stepper;
 
-pub use desk::{Desk, Next};
+pub use extension::{Extension, Next};
 pub use hear::Hear;
 pub use replying::{ended_by, put_line};
 pub use side::AtBench;

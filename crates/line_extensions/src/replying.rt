@@ -4,8 +4,8 @@ ghost use Rattle.std.specs.Io.KnownBytes.{Appends};
 ghost use Rattle.bench_base.specs.Causes.{HasCause};
 ghost use Rattle.bench_base.specs.declared.events.Event.TheVariants as ends;
 ghost use Rattle.line_runs.specs.Lines.{IsCutOff};
-ghost use Rattle.line_extensions.specs.Deeds.{line_of};
-ghost use Rattle.script_text.specs.Told.{IsWholeReply};
+ghost use Rattle.line_extensions.specs.Trace.{line_of};
+ghost use Rattle.script_text.specs.ReplyRanges.{IsWholeReply};
 
 use bench_base::events::{Event, Reply};
 use bench_base::stream::{Sink, WriteFail};
@@ -50,7 +50,7 @@ pub fn ended_by(event: &Event) -> Option<SideStatus>
     }
 }
 
-/// Writes the line of the reply. With `WriteFail` a front of it was written, and the report's count of faults rose. The numbers of a reply
+/// Writes the line of the reply. With `WriteFail` a prefix of it was written, and the report's count of faults rose. The numbers of a reply
 /// fit their types (`whole`).
 pub fn put_line<K: Sink>(reply: &Reply, report: &mut K) -> Result<(), WriteFail>
     ensures whole { IsWholeReply reply.now }

@@ -7,20 +7,20 @@ ghost use Rattle.bench_base.specs.declared.events.Event.TheVariants as ends;
 ghost use Rattle.node_turns.specs.declared.turn.Turn.{Turn};
 ghost use Rattle.line_runs.specs.Lines.{ended, IsCutOff};
 ghost use Rattle.line_runs.specs.Turns.{Reported};
-ghost use Rattle.script_text.specs.Told.{IsWholeReply};
-ghost use Rattle.line_extensions.specs.Deeds.{Done, line_of};
+ghost use Rattle.script_text.specs.ReplyRanges.{IsWholeReply};
+ghost use Rattle.line_extensions.specs.Trace.{StepRecord, line_of};
 ghost use Rattle.line_extensions.specs.DeskLaws.{side_done, side_fits};
 ghost use Rattle.line_extensions.specs.Desks.{World, world, SideLeaves, side_lines, Does, Asks};
-ghost use Rattle.line_extensions.specs.SideDeeds.{SideDeed};
+ghost use Rattle.line_extensions.specs.SideTrace.{SideStep};
 ghost use Rattle.line_extensions.specs.Wants.{MayAsk, IsStep};
 
-use crate::desk::{Desk, Next};
+use crate::extension::{Extension, Next};
 use crate::hear::Hear;
 use crate::replying::{ended_by, put_line};
 use crate::stepper::Stepper;
 use bench_base::events::Event;
 use bench_base::stream::{Sink, WriteFail};
-use line_runs::Clerk;
+use line_runs::LineHandler;
 use line_runs::status::{SideStatus, Status};
 use script_text::{is_skipped, read_event};
 use script_words::Line;
@@ -29,7 +29,7 @@ use std::marker::PhantomData;
 use text_streams::put_text;
 
 // Does the event of a line that the desk left to the bench, and writes its reply's line. A status is the run's end.
-fn do_plain<B: Stepper, D: Desk, K: Sink>(
+fn do_plain<B: Stepper, D: Extension, K: Sink>(
     alloc: Global,
     event: &Event,
     desk: &mut D,
@@ -44,7 +44,7 @@ fn do_plain<B: Stepper, D: Desk, K: Sink>(
     ensures ready { B.IsReady (B.scene bench.new rates.new printer.new) }
     ensures uses { B.sent (B.scene bench.new rates.new printer.new) ≤ B.sent
         (B.scene bench.old rates.old printer.old) + 1 }
-    ensures done { result ≢ Some (SideStatus.Run Status.Memory) → (d : Done) × (turn : Turn) × (d.event ≡ event.now)
+    ensures done { result ≢ Some (SideStatus.Run Status.Memory) → (d : StepRecord) × (turn : Turn) × (d.event ≡ event.now)
         × B.Steps (B.scene bench.old rates.old printer.old) (B.scene bench.new rates.new printer.new) d turn
         × D.Sees desk.old event.now turn desk.new × IsWholeReply d.reply
         × Reported result (event.now ≢ ends.End) (event.now ≡ ends.End) ⊥ (line_of d.reply) (K.taken report.old)
@@ -70,7 +70,7 @@ fn do_plain<B: Stepper, D: Desk, K: Sink>(
 }
 
 // Does the steps that the desk asks for, one after the other. What it wants last is no step.
-fn ask_all<B: Stepper, D: Desk>(
+fn ask_all<B: Stepper, D: Extension>(
     alloc: Global,
     first: Next,
     desk: &mut D,
@@ -85,8 +85,8 @@ fn ask_all<B: Stepper, D: Desk>(
     ensures last { IsStep result → ⊥ }
     ensures uses { B.sent (B.scene bench.new rates.new printer.new) ≤ B.sent
         (B.scene bench.old rates.old printer.old) + 1 }
-    ensures asked { (steps : List Done)
-        × Asks ⟦<D as Desk>⟧ B.Steps (world (B.scene bench.old rates.old printer.old) desk.old)
+    ensures asked { (steps : List StepRecord)
+        × Asks ⟦<D as Extension>⟧ B.Steps (world (B.scene bench.old rates.old printer.old) desk.old)
         (world (B.scene bench.new rates.new printer.new) desk.new) first steps result }
 {
     let mut next = first;
@@ -100,8 +100,8 @@ fn ask_all<B: Stepper, D: Desk>(
     next
 }
 
-// Writes the texts of the desk's answer, each in a line. Where that fails, a front of them was written.
-fn put_texts<D: Desk, K: Sink>(desk: &D, report: &mut K) -> Result<(), WriteFail>
+// Writes the texts of the desk's answer, each in a line. Where that fails, a prefix of them was written.
+fn put_texts<D: Extension, K: Sink>(desk: &D, report: &mut K) -> Result<(), WriteFail>
     ensures ok { OnOk result (Appends (K.taken report.old) (K.taken report.new) (flat_map ended (D.texts desk.now))) }
     ensures err { OnErr result ((part : List ℕ) × Appends (K.taken report.old) (K.taken report.new) part
         × IsCutOff part (flat_map ended (D.texts desk.now))) }
@@ -124,8 +124,8 @@ pub struct AtBench<B, D> {
     of: PhantomData<(B, D)>,
 }
 
-impl<B: Stepper, D: Desk> Clerk for AtBench<B, D> {
-    type Desk = D;
+impl<B: Stepper, D: Extension> LineHandler for AtBench<B, D> {
+    type Extension = D;
 
     type Bench = B::Bench;
 
@@ -141,17 +141,17 @@ impl<B: Stepper, D: Desk> Clerk for AtBench<B, D> {
 
     ghost used = { λ w. B.sent w.scene };
 
-    ghost Deed = { SideDeed D.Own };
+    ghost TraceStep = { SideStep D.Own };
 
-    ghost lines = { side_lines ⟦<D as Desk>⟧ };
+    ghost lines = { side_lines ⟦<D as Extension>⟧ };
 
-    ghost Does = { Does ⟦<D as Desk>⟧ B.Steps };
+    ghost Does = { Does ⟦<D as Extension>⟧ B.Steps };
 
     ghost Leaves = { SideLeaves B.Wants };
 
-    ghost chain = { side_done ⟦<D as Desk>⟧ B.Steps B.Wants };
+    ghost chain = { side_done ⟦<D as Extension>⟧ B.Steps B.Wants };
 
-    ghost fits = { side_fits ⟦<D as Desk>⟧ D.alone };
+    ghost fits = { side_fits ⟦<D as Extension>⟧ D.alone };
 
     fn do_line<K: Sink>(
         alloc: Global,

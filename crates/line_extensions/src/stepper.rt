@@ -12,7 +12,7 @@ use std::alloc::{AllocError, Global};
 pub trait Stepper {
     ghost use Rattle.std.specs.Prelude.{ℕ};
     ghost use Rattle.node_turns.specs.declared.turn.Turn.{Turn};
-    ghost use Rattle.line_extensions.specs.Deeds.{Done};
+    ghost use Rattle.line_extensions.specs.Trace.{StepRecord};
 
     type Bench;
 
@@ -32,7 +32,7 @@ pub trait Stepper {
     ghost sent: { Scene → ℕ };
 
     /// This was done by a step, whose turn this is.
-    ghost Steps: { Scene → Scene → Done → Turn → Type 0 };
+    ghost Steps: { Scene → Scene → StepRecord → Turn → Type 0 };
 
     /// What is left where a `rates` wanted memory.
     ghost Wants: { Scene → Scene → Type 0 };
@@ -49,18 +49,18 @@ pub trait Stepper {
         requires ready { IsReady (scene bench.old rates.old printer.old) }
         requires room { sent (scene bench.old rates.old printer.old) < 1000000 }
         ensures ready { IsReady (scene bench.new rates.new printer.new) }
-        ensures did { IfOk result (λ told. (d : Done) × (turn : Turn) × (d.event ≡ event.now)
+        ensures did { IfOk result (λ told. (d : StepRecord) × (turn : Turn) × (d.event ≡ event.now)
             × Steps (scene bench.old rates.old printer.old) (scene bench.new rates.new printer.new) d turn
             × T.IsOf told turn) }
         ensures memory { OnErr result ((event.now ≡ ev.Rates)
             × Wants (scene bench.old rates.old printer.old) (scene bench.new rates.new printer.new)) };
 
-    ghost told: { (s t : Scene) (d : Done) (turn : Turn) → Steps s t d turn → d.reply ≡ turn.reply };
+    ghost told: { (s t : Scene) (d : StepRecord) (turn : Turn) → Steps s t d turn → d.reply ≡ turn.reply };
 
     /// A step sends one message at most, and one of a quiet event none.
-    ghost sends: { (s t : Scene) (d : Done) (turn : Turn) → Steps s t d turn → sent t ≤ sent s + 1 };
+    ghost sends: { (s t : Scene) (d : StepRecord) (turn : Turn) → Steps s t d turn → sent t ≤ sent s + 1 };
 
-    ghost quiet: { (s t : Scene) (d : Done) (turn : Turn) → Steps s t d turn → IsQuiet d.event → sent t ≤ sent s };
+    ghost quiet: { (s t : Scene) (d : StepRecord) (turn : Turn) → Steps s t d turn → IsQuiet d.event → sent t ≤ sent s };
 
     ghost wants_none: { (s t : Scene) → Wants s t → sent t ≤ sent s };
 }

@@ -12,7 +12,7 @@ use Rattle.line_runs.specs.Lines.{IsOneLine, ended, IsLineIn, ReadsLine}
 use Rattle.line_runs.specs.declared.status.Status.TheVariants as status
 use Rattle.line_runs.specs.declared.status.SideStatus.{SideStatus}
 use Rattle.line_runs.specs.declared.status.SideStatus.TheVariants.{Run, Stopped}
-use Rattle.line_runs.specs.Deeds.{Lines, Reads}
+use Rattle.line_runs.specs.Trace.{Lines, Reads}
 use Rattle.line_runs.specs.Runs.{IsBadPlace, DidLast, RanOut, EndsIn, Replayed}
 use Rattle.line_runs.specs.Turns.{AreDone, DidLine, Refused, Wanted, LineEnd, Ended, Goes, Stops, Progress}
 
@@ -63,9 +63,9 @@ module _ {D : Type 0} (l : Lines D) where
   reads_of left0 left1 line is_ended d t same is =
       record { one = subst IsOneLine (sym same) t.one; short = subst (λ x. length x ≤ 600) (sym same) t.short; is = is }
 
-  line_of_deed : (left0 left1 : Option (List ℕ)) (line : List ℕ) (is_ended : Bool) (d : D) (t : LineTaken left0 left1 line is_ended) → l.line_in d ≡ line
+  line_of_step : (left0 left1 : Option (List ℕ)) (line : List ℕ) (is_ended : Bool) (d : D) (t : LineTaken left0 left1 line is_ended) → l.line_in d ≡ line
       → IsLineIn is_ended (l.line_in d) t.bytes (IsAtEnd left1)
-  line_of_deed left0 left1 line is_ended d t same = subst (λ x. IsLineIn is_ended x t.bytes (IsAtEnd left1)) (sym same) t.is
+  line_of_step left0 left1 line is_ended d t same = subst (λ x. IsLineIn is_ended x t.bytes (IsAtEnd left1)) (sym same) t.is
 
   abbrev did_last : (left0 left1 : Option (List ℕ)) (line : List ℕ) (is_ended : Bool) (d : D) (t : LineTaken left0 left1 line is_ended) → l.line_in d ≡ line → l.IsOf d
       → DidLast l t.bytes (IsAtEnd left1) (d ∷ [])
@@ -74,7 +74,7 @@ module _ {D : Type 0} (l : Lines D) where
     is_ended = is_ended;
     only = refl;
     reads = reads_of left0 left1 line is_ended d t same is;
-    line = line_of_deed left0 left1 line is_ended d t same;
+    line = line_of_step left0 left1 line is_ended d t same;
   }
 
   ran_out_as : (outcome : SideStatus) (number : ℕ) → number ≤ 1000000 → (number < 1000000 → outcome ≡ Run (status.Script (number + 1))) → (number ≡ 1000000 → outcome ≡ Run status.TooLong)
@@ -90,10 +90,10 @@ module _ {D : Type 0} (l : Lines D) where
             subst (λ (s : SideStatus). EndsIn l s number bytes end text done) (sym (long is)) at
       ]
 
-  -- the same deeds, with more said of them
-  pub said : (P Q : List D → Type 0) (outcome : SideStatus) (a b t u : Option (List ℕ)) → ((deeds : List D) → P deeds → Q deeds) → Replayed l outcome P a b t u → Replayed l outcome Q a b t u
+  -- the same steps, with more said of them
+  pub said : (P Q : List D → Type 0) (outcome : SideStatus) (a b t u : Option (List ℕ)) → ((trace : List D) → P trace → Q trace) → Replayed l outcome P a b t u → Replayed l outcome Q a b t u
   said P Q outcome a b t u more r = record {
-    deeds = r.deeds;
+    trace = r.trace;
     each = r.each;
     go_on = r.go_on;
     rest = r.rest;
@@ -103,13 +103,13 @@ module _ {D : Type 0} (l : Lines D) where
     ends = r.ends;
     consumed = r.consumed;
     appended = r.appended;
-    did = more (r.deeds ++ r.done) r.did;
+    did = more (r.trace ++ r.done) r.did;
   }
 
   module _ {B : Type 0} (Does : B → B → List D → Type 0) (Leaves : SideStatus → B → B → Type 0) (chain : AreDone Does Leaves) where
-    -- nothing but the deeds was done
-    ended_so : (s : SideStatus) (old new : B) (deeds : List D) → s ≢ Run status.Memory → Does old new deeds → Ended Does Leaves s old new deeds
-    ended_so s old new deeds other did = record { behind = new; did = did; leaves = chain.rests s new other }
+    -- nothing but the steps was done
+    ended_so : (s : SideStatus) (old new : B) (trace : List D) → s ≢ Run status.Memory → Does old new trace → Ended Does Leaves s old new trace
+    ended_so s old new trace other did = record { behind = new; did = did; leaves = chain.rests s new other }
 
     -- the run goes on behind a line end
     pub line_goes : (number : ℕ) (old new : B) (left0 left1 taken0 taken1 : Option (List ℕ)) (line : List ℕ)
@@ -117,10 +117,10 @@ module _ {D : Type 0} (l : Lines D) where
     line_goes number old new left0 left1 taken0 taken1 line t (LineEnd.refused r) = cc (r.outcome_is)
     line_goes number old new left0 left1 taken0 taken1 line t (LineEnd.wanted r) = cc (r.outcome_is)
     line_goes number old new left0 left1 taken0 taken1 line t (LineEnd.did d) = record {
-      deed = d.deed;
-      reads = reads_of left0 left1 line true d.deed t d.line_is d.is;
+      trace_step = d.trace_step;
+      reads = reads_of left0 left1 line true d.trace_step t d.line_is d.is;
       goes_on = d.reported.0;
-      consumed = subst (Consumes left0 left1) (line_of_deed left0 left1 line true d.deed t d.line_is) t.consumed;
+      consumed = subst (Consumes left0 left1) (line_of_step left0 left1 line true d.trace_step t d.line_is) t.consumed;
       appended = d.reported.1;
       did = d.did;
     }
@@ -135,33 +135,33 @@ module _ {D : Type 0} (l : Lines D) where
     done_stops (Run status.Memory) number few old new left0 left1 taken0 taken1 line is_ended t d = absurd d.reported
     done_stops (Run status.Done) number few old new left0 left1 taken0 taken1 line is_ended t d = record {
       bytes = t.bytes;
-      done = d.deed ∷ [];
-      text = l.text_for d.deed;
+      done = d.trace_step ∷ [];
+      text = l.text_for d.trace_step;
       few = λ _. few;
-      ends = (did_last left0 left1 line is_ended d.deed t d.line_is d.is, d.reported.0, refl);
+      ends = (did_last left0 left1 line is_ended d.trace_step t d.line_is d.is, d.reported.0, refl);
       consumed = t.consumed;
       appended = d.reported.1;
-      did = ended_so (Run status.Done) old new (d.deed ∷ []) (λ e. cc) d.did;
+      did = ended_so (Run status.Done) old new (d.trace_step ∷ []) (λ e. cc) d.did;
     }
     done_stops (Run status.WriteFault) number few old new left0 left1 taken0 taken1 line is_ended t d = record {
       bytes = t.bytes;
-      done = d.deed ∷ [];
+      done = d.trace_step ∷ [];
       text = d.reported.0;
       few = λ _. few;
-      ends = (did_last left0 left1 line is_ended d.deed t d.line_is d.is, d.reported.2);
+      ends = (did_last left0 left1 line is_ended d.trace_step t d.line_is d.is, d.reported.2);
       consumed = t.consumed;
       appended = d.reported.1;
-      did = ended_so (Run status.WriteFault) old new (d.deed ∷ []) (λ e. cc) d.did;
+      did = ended_so (Run status.WriteFault) old new (d.trace_step ∷ []) (λ e. cc) d.did;
     }
     done_stops Stopped number few old new left0 left1 taken0 taken1 line is_ended t d = record {
       bytes = t.bytes;
-      done = d.deed ∷ [];
+      done = d.trace_step ∷ [];
       text = [];
       few = λ _. few;
-      ends = (did_last left0 left1 line is_ended d.deed t d.line_is d.is, d.reported.0, refl);
+      ends = (did_last left0 left1 line is_ended d.trace_step t d.line_is d.is, d.reported.0, refl);
       consumed = t.consumed;
       appended = subst (λ (x : Option (List ℕ)). Appends taken0 x []) (sym d.reported.1) (Appends-nil taken0);
-      did = ended_so Stopped old new (d.deed ∷ []) (λ e. cc) d.did;
+      did = ended_so Stopped old new (d.trace_step ∷ []) (λ e. cc) d.did;
     }
 
     -- the run ends since what stands in the line's place is bad
@@ -237,21 +237,21 @@ module _ {D : Type 0} (l : Lines D) where
     line_runs_out outcome number few missing long old new left0 left1 taken0 taken1 line t (LineEnd.wanted r) = cc (r.outcome_is)
     line_runs_out outcome number few missing long old new left0 left1 taken0 taken1 line t (LineEnd.did d) = record {
       bytes = t.bytes;
-      done = d.deed ∷ [];
-      text = l.text_for d.deed;
+      done = d.trace_step ∷ [];
+      text = l.text_for d.trace_step;
       few = λ _. few;
-      ends = ran_out_as outcome number few missing long t.bytes (IsAtEnd left1) (l.text_for d.deed) (d.deed ∷ [])
+      ends = ran_out_as outcome number few missing long t.bytes (IsAtEnd left1) (l.text_for d.trace_step) (d.trace_step ∷ [])
           (record {
-            last = d.deed;
+            last = d.trace_step;
             only = refl;
-            reads = reads_of left0 left1 line false d.deed t d.line_is d.is;
-            line = line_of_deed left0 left1 line false d.deed t d.line_is;
+            reads = reads_of left0 left1 line false d.trace_step t d.line_is d.is;
+            line = line_of_step left0 left1 line false d.trace_step t d.line_is;
             goes_on = d.reported.0;
             told = refl;
           });
       consumed = t.consumed;
       appended = d.reported.1;
-      did = ended_so outcome old new (d.deed ∷ []) (not_memory outcome number few missing long) d.did;
+      did = ended_so outcome old new (d.trace_step ∷ []) (not_memory outcome number few missing long) d.did;
     }
 
     -- the line is too long, or missing
@@ -271,19 +271,19 @@ module _ {D : Type 0} (l : Lines D) where
 
     pub progress_more : (count : ℕ) (old mid new : B) (a b c t u v : Option (List ℕ)) → Progress l Does count old mid a b t u → Goes l Does mid new b c u v → Progress l Does (count + 1) old new a c t v
     progress_more count old mid new a b c t u v p n = record {
-      deeds = p.deeds ++ n.deed ∷ [];
-      each = each_append (Reads l) p.deeds (n.deed ∷ []) p.each (n.reads, tt);
-      go_on = each_append l.GoesOn p.deeds (n.deed ∷ []) p.go_on (n.goes_on, tt);
-      number = length-append p.deeds (n.deed ∷ []) ∙ ap (λ x. x + 1) p.number;
-      consumed = subst (Consumes a c) (sym (flat_push (λ d. ended (l.line_in d)) p.deeds n.deed)) (Consumes-trans a b c _ _ p.consumed n.consumed);
-      appended = subst (Appends t v) (sym (flat_push l.text_for p.deeds n.deed)) (Appends-trans t u v _ _ p.appended n.appended);
-      did = chain.both old mid new p.deeds (n.deed ∷ []) p.did n.did;
+      trace = p.trace ++ n.trace_step ∷ [];
+      each = each_append (Reads l) p.trace (n.trace_step ∷ []) p.each (n.reads, tt);
+      go_on = each_append l.GoesOn p.trace (n.trace_step ∷ []) p.go_on (n.goes_on, tt);
+      number = length-append p.trace (n.trace_step ∷ []) ∙ ap (λ x. x + 1) p.number;
+      consumed = subst (Consumes a c) (sym (flat_push (λ d. ended (l.line_in d)) p.trace n.trace_step)) (Consumes-trans a b c _ _ p.consumed n.consumed);
+      appended = subst (Appends t v) (sym (flat_push l.text_for p.trace n.trace_step)) (Appends-trans t u v _ _ p.appended n.appended);
+      did = chain.both old mid new p.trace (n.trace_step ∷ []) p.did n.did;
     }
 
     pub replayed : (outcome : SideStatus) (count : ℕ) (old mid new : B) (a b c t u v : Option (List ℕ)) → Progress l Does count old mid a b t u → Stops l Does Leaves outcome (count + 1) mid new b c u v
         → Replayed l outcome (Ended Does Leaves outcome old new) a c t v
     replayed outcome count old mid new a b c t u v p s = record {
-      deeds = p.deeds;
+      trace = p.trace;
       each = p.each;
       go_on = p.go_on;
       rest = s.bytes;
@@ -293,7 +293,7 @@ module _ {D : Type 0} (l : Lines D) where
       ends = subst (λ (n : ℕ). EndsIn l outcome (n + 1) s.bytes (IsAtEnd c) s.text s.done) (sym p.number) s.ends;
       consumed = Consumes-trans a b c _ _ p.consumed s.consumed;
       appended = Appends-trans t u v _ _ p.appended s.appended;
-      did = record { behind = s.did.behind; did = chain.both old mid s.did.behind p.deeds s.done p.did s.did.did; leaves = s.did.leaves };
+      did = record { behind = s.did.behind; did = chain.both old mid s.did.behind p.trace s.done p.did s.did.did; leaves = s.did.leaves };
     }
 
     pub too_long : (count : ℕ) → count ≡ 1000000 → (old new : B) (a b t u : Option (List ℕ)) → Progress l Does count old new a b t u

@@ -6,7 +6,7 @@ ghost use Rattle.line_runs.specs.Ends.{IsByScript, EndsAs, IsComplete};
 ghost use Rattle.line_runs.specs.Runs.{Replayed};
 ghost use Rattle.line_runs.specs.Turns.{Goes, Stops, Ended};
 
-use crate::clerk::Clerk;
+use crate::line_handler::LineHandler;
 use crate::lines::{LineRead, read_line};
 use crate::status::{SideStatus, Status};
 use bench_base::stream::Sink;
@@ -30,12 +30,12 @@ fn missing_after(number: u32) -> SideStatus
 }
 
 // Reads the line of this number and does it. A status is the run's end.
-fn turn<C: Clerk, S: BufSource, K: Sink>(
+fn turn<C: LineHandler, S: BufSource, K: Sink>(
     alloc: Global,
     number: u32,
     buf: &mut [u8; 600],
     script: &mut S,
-    desk: &mut C::Desk,
+    desk: &mut C::Extension,
     bench: &mut C::Bench,
     rates: &mut C::Rates,
     printer: &mut C::Printer,
@@ -79,10 +79,10 @@ fn turn<C: Clerk, S: BufSource, K: Sink>(
 }
 
 /// Does the script's lines up to the run's end.
-pub fn run_lines<C: Clerk, S: BufSource, K: Sink>(
+pub fn run_lines<C: LineHandler, S: BufSource, K: Sink>(
     alloc: Global,
     script: &mut S,
-    desk: &mut C::Desk,
+    desk: &mut C::Extension,
     bench: &mut C::Bench,
     rates: &mut C::Rates,
     printer: &mut C::Printer,

@@ -5,11 +5,11 @@ use Rattle.std.proofs.lemmas.Option.{same_Some}
 use Rattle.bench_base.specs.declared.events.Event.{Event}
 use Rattle.bench_base.specs.declared.events.Reply.{Reply}
 use Rattle.node_turns.specs.declared.turn.Turn.{Turn}
-use Rattle.line_extensions.specs.Deeds.{Done, Skipped, Did}
+use Rattle.line_extensions.specs.Trace.{StepRecord, Skipped, Did}
 use Rattle.line_extensions.specs.Desks.{World, world, Asks, Does}
-use Rattle.line_extensions.specs.SideDeeds.{SideDeed, Plain, Own, Broken}
-use Rattle.line_extensions.specs.declared.desk.Next.{Next}
-use Rattle.line_extensions.specs.declared.desk.Next.TheVariants.{Step, Say, Stop}
+use Rattle.line_extensions.specs.SideTrace.{SideStep, Plain, Own, Broken}
+use Rattle.line_extensions.specs.declared.extension.Next.{Next}
+use Rattle.line_extensions.specs.declared.extension.Next.TheVariants.{Step, Say, Stop}
 use Rattle.mail_manifest.specs.Answers.{IsTold, AreScanned, IsChecked, IsAnsweredOn, IsAnsweredBare, IsAnswered, AreAnswered}
 use Rattle.mail_manifest.specs.Causes.{Either, Finds}
 use Rattle.mail_manifest.specs.CheckerDesk.{checker_desk}
@@ -22,8 +22,8 @@ use Rattle.mail_manifest.specs.View.{listing_of, said_of}
 use Rattle.mail_manifest.specs.declared.checker.Checker.{Checker}
 use Rattle.mail_manifest.specs.declared.opening.ManifestLine.{ManifestLine}
 use Rattle.mail_manifest.specs.declared.opening.ManifestLine.TheVariants.{Open, Piece, Code, Check}
-use Rattle.mail_manifest.specs.declared.said.Said.{Said}
-use Rattle.mail_manifest.specs.declared.said.Said.TheVariants as said
+use Rattle.mail_manifest.specs.declared.answer.Answer.{Answer}
+use Rattle.mail_manifest.specs.declared.answer.Answer.TheVariants as answers
 use Rattle.mail_manifest.proofs.Judging.{either_by, either_any, yes_is_good}
 use Rattle.line_extensions.proofs.Wanting.{IsSay, step_event, ends_at}
 
@@ -39,20 +39,20 @@ no_step n e is say = subst (λ (x : Next). IsSay x) is say
 no_stop : (n : Next) (e : Event) → n ≡ Step e → IsStop n → ⊥
 no_stop n e is stop = subst (λ (x : Next). IsStop x) is stop
 
-module _ {B : Type 0} (Steps : B → B → Done → Turn → Type 0) (told : (s t : B) (d : Done) (turn : Turn) → Steps s t d turn → d.reply ≡ turn.reply) where
+module _ {B : Type 0} (Steps : B → B → StepRecord → Turn → Type 0) (told : (s t : B) (d : StepRecord) (turn : Turn) → Steps s t d turn → d.reply ≡ turn.reply) where
   -- what the checker says first it says last
-  says_end : (old new : World B Checker) (next : Next) (steps : List Done) (last : Next) → Asks checker_desk Steps old new next steps last → next ≡ Say
+  says_end : (old new : World B Checker) (next : Next) (steps : List StepRecord) (last : Next) → Asks checker_desk Steps old new next steps last → next ≡ Say
       → (steps ≡ []) × (last ≡ Say) × (new ≡ old)
   says_end old new next steps last asks say = let end = ends_at checker_desk Steps old new next steps last asks (inl say) in (end.0, end.1 ∙ say, end.2)
 
-  module _ (answer : Said) (left : Option Listing) (old new : World B Checker) (next : Next) (steps : List Done) (says : Answers answer left next old.desk) where
+  module _ (answer : Answer) (left : Option Listing) (old new : World B Checker) (next : Next) (steps : List StepRecord) (says : Answers answer left next old.desk) where
     -- the texts are those of its answer
     says_texts : Asks checker_desk Steps old new next steps Say → (steps ≡ []) × (said_texts (said_of new.desk) ≡ said_texts answer) × (listing_of new.desk ≡ left)
     says_texts asks =
         let end = says_end old new next steps Say asks says.ends in
         let same : new.desk ≡ old.desk = ap (λ (w : World B Checker). w.desk) end.2 in (
           end.0,
-          ap (λ (k : Checker). said_texts (said_of k)) same ∙ ap (λ (s : Said). said_texts s) says.answers,
+          ap (λ (k : Checker). said_texts (said_of k)) same ∙ ap (λ (s : Answer). said_texts s) says.answers,
           ap (λ (k : Checker). listing_of k) same ∙ says.leaves,
         )
 
@@ -65,12 +65,12 @@ module _ {B : Type 0} (Steps : B → B → Done → Turn → Type 0) (told : (s 
   -- == the scans ==
 
   -- what follows a scan of the piece
-  goes_by : (m : Listing) (number : ℕ) (k : Checker) (reply : Reply) (next : Next) (new : Checker) → said_of k ≡ said.Scanning number → listing_of k ≡ Some m → GoesOn (said_of k) reply k next new → GoesBy m number reply next new
+  goes_by : (m : Listing) (number : ℕ) (k : Checker) (reply : Reply) (next : Next) (new : Checker) → said_of k ≡ answers.Scanning number → listing_of k ≡ Some m → GoesOn (said_of k) reply k next new → GoesBy m number reply next new
   goes_by m number k reply next new waits here goes =
-      let scanned : Scanned number reply k next new = subst (λ (s : Said). GoesOn s reply k next new) waits goes in
+      let scanned : Scanned number reply k next new = subst (λ (s : Answer). GoesOn s reply k next new) waits goes in
       subst (λ (l : Listing). GoesBy l number reply next new) (same_Some scanned.listing m (sym scanned.here ∙ here)) scanned.goes
 
-  scans_told : (m : Listing) (number : ℕ) (old new : World B Checker) (next : Next) (steps : List Done) → Scans m number next old.desk → Asks checker_desk Steps old new next steps Say
+  scans_told : (m : Listing) (number : ℕ) (old new : World B Checker) (next : Next) (steps : List StepRecord) → Scans m number next old.desk → Asks checker_desk Steps old new next steps Say
       → AreScanned m number steps (said_texts (said_of new.desk)) × (listing_of new.desk ≡ Some m)
   scans_told m number old new next [] scans asks = absurd (no_step next _ scans.asks (subst (λ (x : Next). IsSay x) asks.0 tt))
   scans_told m number old new next (d ∷ rest) scans asks =
@@ -79,7 +79,7 @@ module _ {B : Type 0} (Steps : B → B → Done → Turn → Type 0) (told : (s 
       elim (goes_by m number old.desk asks.2.turn.reply asks.1 asks.0.desk scans.waits scans.leaves asks.2.goes) [
         | inl did ↦ by_place event (accepted_by d.reply asks.2.turn.reply reply did.0) (number == length m.marks) did.1 (λ on. scans_told m (number + 1) asks.0 new asks.1 rest on asks.3)
         | inr other ↦
-            let end = says_texts (said.NoPiece number asks.2.turn.reply) (Some m) asks.0 new asks.1 rest other.1 asks.3 in (
+            let end = says_texts (answers.NoPiece number asks.2.turn.reply) (Some m) asks.0 new asks.1 rest other.1 asks.3 in (
               (event, inr (λ is. other.0 (accepted_by asks.2.turn.reply d.reply (sym reply) is), end.0, end.1 ∙ ap (λ (r : Reply). no_piece_text number r ∷ []) (sym reply))),
               end.2,
             )
@@ -95,23 +95,23 @@ module _ {B : Type 0} (Steps : B → B → Done → Turn → Type 0) (told : (s 
       by_place event accepted false scans' on = let further = on scans' in ((event, inl (accepted, further.0)), further.1)
 
   -- no scan breaks the line off
-  scans_no_stop : (m : Listing) (number : ℕ) (old new : World B Checker) (next : Next) (steps : List Done) → Scans m number next old.desk → Asks checker_desk Steps old new next steps Stop → ⊥
+  scans_no_stop : (m : Listing) (number : ℕ) (old new : World B Checker) (next : Next) (steps : List StepRecord) → Scans m number next old.desk → Asks checker_desk Steps old new next steps Stop → ⊥
   scans_no_stop m number old new next [] scans asks = no_stop next _ scans.asks (subst (λ (x : Next). IsStop x) asks.0 tt)
   scans_no_stop m number old new next (d ∷ rest) scans asks =
       elim (goes_by m number old.desk asks.2.turn.reply asks.1 asks.0.desk scans.waits scans.leaves asks.2.goes) [
         | inl did ↦ either_any (number == length m.marks) (λ last says. says_no_stop (yes_of m) (Some m) asks.0 new asks.1 rest says asks.3)
             (λ more on. scans_no_stop m (number + 1) asks.0 new asks.1 rest on asks.3) did.1
-        | inr other ↦ says_no_stop (said.NoPiece number asks.2.turn.reply) (Some m) asks.0 new asks.1 rest other.1 asks.3
+        | inr other ↦ says_no_stop (answers.NoPiece number asks.2.turn.reply) (Some m) asks.0 new asks.1 rest other.1 asks.3
       ]
 
   -- == one line ==
 
-  module _ (s : B) (k : Checker) (new : World B Checker) (first : Next) (steps : List Done) where
+  module _ (s : B) (k : Checker) (new : World B Checker) (first : Next) (steps : List StepRecord) where
     module _ (asks : Asks checker_desk Steps (world s k) new first steps Say) where
-      told_by : (answer : Said) (text : List ℕ) (left : Option Listing) → said_texts answer ≡ text ∷ [] → Answers answer left first k → IsTold text left steps (said_texts (said_of new.desk)) (listing_of new.desk)
+      told_by : (answer : Answer) (text : List ℕ) (left : Option Listing) → said_texts answer ≡ text ∷ [] → Answers answer left first k → IsTold text left steps (said_texts (said_of new.desk)) (listing_of new.desk)
       told_by answer text left is says = says_told answer left (world s k) new first steps says text is asks
 
-      by_cause : (m : Listing) (code : List ℕ) (cause : Option Said) → Finds m code cause → ByCause m cause first k → IsChecked m code steps (said_texts (said_of new.desk)) (listing_of new.desk)
+      by_cause : (m : Listing) (code : List ℕ) (cause : Option Answer) → Finds m code cause → ByCause m cause first k → IsChecked m code steps (said_texts (said_of new.desk)) (listing_of new.desk)
       by_cause m code (Some cause) finds does =
           let end = says_texts cause (Some m) (world s k) new first steps does asks in
           record { cause = Some cause; finds = finds; judged = (end.0, end.1); good = yes_is_good m code (Some cause) steps _ finds (end.0, end.1); leaves = end.2 }
@@ -120,18 +120,18 @@ module _ {B : Type 0} (Steps : B → B → Done → Turn → Type 0) (told : (s 
           record { cause = None; finds = finds; judged = end.0; good = yes_is_good m code None steps _ finds end.0; leaves = end.1 }
 
       on_told : (m : Listing) (own : ManifestLine) → BeginsOn m own first k → IsAnsweredOn m own steps (said_texts (said_of new.desk)) (listing_of new.desk)
-      on_told m (Open o) begins = told_by (said.Opened o.count) (open_text o.count) (Some (opened o)) refl begins
+      on_told m (Open o) begins = told_by (answers.Opened o.count) (open_text o.count) (Some (opened o)) refl begins
       on_told m (Piece mark) begins =
-          either_by (length m.marks == m.opening.count) (λ says. told_by said.Full (codes "refused manifest full") (Some m) refl says)
-          (λ says. told_by (said.Piece (length m.marks + 1)) (piece_text (length m.marks + 1)) (Some (with_mark m mark)) refl says) begins
-      on_told m Code begins = told_by (said.Code (code_of m)) (code_text (code_of m)) (Some m) refl begins
+          either_by (length m.marks == m.opening.count) (λ says. told_by answers.Full (codes "refused manifest full") (Some m) refl says)
+          (λ says. told_by (answers.Piece (length m.marks + 1)) (piece_text (length m.marks + 1)) (Some (with_mark m mark)) refl says) begins
+      on_told m Code begins = told_by (answers.Code (code_of m)) (code_text (code_of m)) (Some m) refl begins
       on_told m (Check code) begins = by_cause m code begins.cause begins.finds begins.does
 
       bare_told : (own : ManifestLine) → BeginsBare own first k → IsAnsweredBare own steps (said_texts (said_of new.desk)) (listing_of new.desk)
-      bare_told (Open o) begins = told_by (said.Opened o.count) (open_text o.count) (Some (opened o)) refl begins
-      bare_told (Piece mark) begins = told_by said.NoManifest (codes "refused manifest none") None refl begins
-      bare_told Code begins = told_by said.NoManifest (codes "refused manifest none") None refl begins
-      bare_told (Check code) begins = told_by said.NoManifest (codes "refused manifest none") None refl begins
+      bare_told (Open o) begins = told_by (answers.Opened o.count) (open_text o.count) (Some (opened o)) refl begins
+      bare_told (Piece mark) begins = told_by answers.NoManifest (codes "refused manifest none") None refl begins
+      bare_told Code begins = told_by answers.NoManifest (codes "refused manifest none") None refl begins
+      bare_told (Check code) begins = told_by answers.NoManifest (codes "refused manifest none") None refl begins
 
       own_told : (m : Option Listing) (own : ManifestLine) → BeginsWith m own first k → IsAnswered m own steps (said_texts (said_of new.desk)) (listing_of new.desk)
       own_told (Some m) own begins = on_told m own begins
@@ -139,10 +139,10 @@ module _ {B : Type 0} (Steps : B → B → Done → Turn → Type 0) (told : (s 
 
     -- no line about the manifest is broken off
     module _ (asks : Asks checker_desk Steps (world s k) new first steps Stop) where
-      whole : (answer : Said) (left : Option Listing) → Answers answer left first k → ⊥
+      whole : (answer : Answer) (left : Option Listing) → Answers answer left first k → ⊥
       whole answer left says = says_no_stop answer left (world s k) new first steps says asks
 
-      cause_whole : (m : Listing) (cause : Option Said) → ByCause m cause first k → ⊥
+      cause_whole : (m : Listing) (cause : Option Answer) → ByCause m cause first k → ⊥
       cause_whole m (Some cause) does = whole cause (Some m) does
       cause_whole m None does = scans_no_stop m 1 (world s k) new first steps does asks
 
@@ -164,7 +164,7 @@ module _ {B : Type 0} (Steps : B → B → Done → Turn → Type 0) (told : (s 
 
   -- == each line ==
 
-  pub all_answered : (old new : World B Checker) (deeds : List (SideDeed ManifestLine)) → Does checker_desk Steps old new deeds → AreAnswered (listing_of old.desk) deeds (listing_of new.desk)
+  pub all_answered : (old new : World B Checker) (trace : List (SideStep ManifestLine)) → Does checker_desk Steps old new trace → AreAnswered (listing_of old.desk) trace (listing_of new.desk)
   all_answered old new [] did = ap (λ (w : World B Checker). listing_of w.desk) did
   all_answered old new (Plain (Skipped line) ∷ rest) did =
       subst (λ (m : Option Listing). AreAnswered m rest (listing_of new.desk)) (ap (λ (w : World B Checker). listing_of w.desk) did.1) (all_answered did.0 new rest did.2)

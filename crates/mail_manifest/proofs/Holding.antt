@@ -12,20 +12,20 @@ use Rattle.bench_base.specs.Ledger.{Ledger, counted}
 use Rattle.bench_base.specs.Rules.{editions}
 use Rattle.bench_base.specs.Scans.{accepted}
 use Rattle.bench_base.proofs.Facts.{ok_same}
-use Rattle.line_extensions.specs.Deeds.{Done, Skipped, Did}
-use Rattle.line_extensions.specs.SideDeeds.{SideDeed, Plain, Own, Broken, steps_in, steps_of}
+use Rattle.line_extensions.specs.Trace.{StepRecord, Skipped, Did}
+use Rattle.line_extensions.specs.SideTrace.{SideStep, Plain, Own, Broken, steps_in, steps_of}
 use Rattle.indicium.specs.declared.Mark.{Mark}
 use Rattle.indicium.specs.Marks.{read_mark}
 use Rattle.ledger_terms.specs.Editions.{Editions}
 use Rattle.ledger_moves.specs.Histories.{History}
 use Rattle.ledger_moves.specs.Tariffs.{Tariff}
-use Rattle.run_laws.specs.Deeds.{AllMoved, IsAcceptedAs}
+use Rattle.run_laws.specs.Trace.{AllMoved, IsAcceptedAs}
 use Rattle.run_laws.proofs.Going.{scanned_among}
 use Rattle.run_laws.proofs.Sums.{sums_alike}
 use Rattle.scan_laws.specs.Acceptances.{IsAccepted, IsOfPiece}
 use Rattle.scan_laws.proofs.Entries.{accepted_within}
 use Rattle.scan_laws.proofs.Marked.{released_postage, one_number}
-use Rattle.script_replay.specs.Deeds.{ledger_after}
+use Rattle.script_replay.specs.Trace.{ledger_after}
 use Rattle.mail_manifest.specs.Answers.{AreAccepted, IsGood, IsAnswered, AreAnswered}
 use Rattle.mail_manifest.specs.Holds.{IsMail, debit_in, debited_in_all, ManifestHolds, IsYes, IsGoodBehind, YesHolds}
 use Rattle.mail_manifest.specs.Listings.{Listing, mark_at, postage_in, postage_of, postage_in_all}
@@ -36,16 +36,16 @@ use Rattle.mail_manifest.proofs.Judging.{yes_told, none_is_no_yes}
 -- == the scans of a check ==
 
 -- the scan of the piece at this place was accepted
-record WasScanned (m : Listing) (at : ℕ) (steps : List Done) : Type 0 where
-  scan : Done
+record WasScanned (m : Listing) (at : ℕ) (steps : List StepRecord) : Type 0 where
+  scan : StepRecord
   within : Contains steps scan
   event : scan.event ≡ ev.ScanHex (m.opening.first + at) (mark_at m at)
   accepts : IsAccepted scan.reply
 
-was_later : (m : Listing) (at : ℕ) (d : Done) (rest : List Done) → WasScanned m at rest → WasScanned m at (d ∷ rest)
+was_later : (m : Listing) (at : ℕ) (d : StepRecord) (rest : List StepRecord) → WasScanned m at rest → WasScanned m at (d ∷ rest)
 was_later m at d rest is = record { scan = is.scan; within = Contains-append_right (d ∷ []) rest is.scan is.within; event = is.event; accepts = is.accepts }
 
-was_scanned : (m : Listing) (number : ℕ) (steps : List Done) → AreAccepted m number steps → (at : ℕ) → number ≤ at + 1 → at < length m.marks → WasScanned m at steps
+was_scanned : (m : Listing) (number : ℕ) (steps : List StepRecord) → AreAccepted m number steps → (at : ℕ) → number ≤ at + 1 → at < length m.marks → WasScanned m at steps
 was_scanned m number [] accepted at from lt = absurd (omega (arith, accepted, from, lt))
 was_scanned m number (d ∷ rest) accepted at from lt = elim (cases_eq number (at + 1)) [
   | inl same ↦
@@ -104,7 +104,7 @@ module _ (today : Editions editions) (τ : Tariff) (H : Ledger) (history : Histo
 
 -- == each check of a run ==
 
-split_answers : (m : Option Listing) (a rest : List (SideDeed ManifestLine)) (after : Option Listing) → AreAnswered m (a ++ rest) after → (mid : Option Listing) × AreAnswered m a mid × AreAnswered mid rest after
+split_answers : (m : Option Listing) (a rest : List (SideStep ManifestLine)) (after : Option Listing) → AreAnswered m (a ++ rest) after → (mid : Option Listing) × AreAnswered m a mid × AreAnswered mid rest after
 split_answers m [] rest after answers = (m, refl, answers)
 split_answers m (Plain (Skipped line) ∷ a) rest after answers = split_answers m a rest after answers
 split_answers m (Plain (Did line d) ∷ a) rest after answers = let later = split_answers m a rest after answers.1 in (later.0, (answers.0, later.1), later.2)
@@ -113,9 +113,9 @@ split_answers m (Own line own steps texts ∷ a) rest after answers =
 split_answers m (Broken line own steps ∷ a) rest after answers = absurd answers
 
 module _ (today : Editions editions) (τ : Tariff) (H : Ledger) where
-  module _ (all : List Done) (did : AllMoved τ H all) (history : History τ editions (ledger_after τ H all)) where
+  module _ (all : List StepRecord) (did : AllMoved τ H all) (history : History τ editions (ledger_after τ H all)) where
     -- a good manifest holds by the ledger behind its scans and whatever was done else
-    good_holds : (m : Listing) (code : List ℕ) (steps : List Done) → ((d : Done) → Contains steps d → Contains all d) → IsGood m code steps → ManifestHolds m (ledger_after τ H all)
+    good_holds : (m : Listing) (code : List ℕ) (steps : List StepRecord) → ((d : StepRecord) → Contains steps d → Contains all d) → IsGood m code steps → ManifestHolds m (ledger_after τ H all)
     good_holds m code steps among good =
         let mail = λ (at : ℕ) (lt : at < length m.marks).
         let was = was_scanned m 1 steps good.accepted at (omega arith) lt in
@@ -128,7 +128,7 @@ module _ (today : Editions editions) (τ : Tariff) (H : Ledger) where
           total = sym good.total ∙ debited today τ (ledger_after τ H all) history m mail;
         }
 
-    module _ (before : List (SideDeed ManifestLine)) (code : List ℕ) (steps : List Done) (texts : List (List ℕ)) (among : (d : Done) → Contains steps d → Contains all d) (told : IsYes texts) where
+    module _ (before : List (SideStep ManifestLine)) (code : List ℕ) (steps : List StepRecord) (texts : List (List ℕ)) (among : (d : StepRecord) → Contains steps d → Contains all d) (told : IsYes texts) where
       by_listing : (mid after : Option Listing) → AreAnswered None before mid → IsAnswered mid (Check code) steps texts after → IsGoodBehind before texts (ledger_after τ H all)
       by_listing None after here answer = absurd (none_is_no_yes texts answer.texts_are told)
       by_listing (Some m) after here answer =
@@ -136,14 +136,14 @@ module _ (today : Editions editions) (τ : Tariff) (H : Ledger) where
           record { listing = m; here = here; tells = tells; holds = good_holds m code steps among (answer.good.0 tells) }
 
   -- EACH MANIFEST THAT WAS FOUND GOOD HOLDS BY THE LEDGER
-  pub yes_holds : (deeds : List (SideDeed ManifestLine)) (after : Option Listing) → AreAnswered None deeds after → AllMoved τ H (steps_of deeds) → History τ editions (ledger_after τ H (steps_of deeds))
-      → YesHolds deeds (ledger_after τ H (steps_of deeds))
-  yes_holds deeds after answers did history before behind line code steps texts are told =
-      let split = split_answers None before (Own line (Check code) steps texts ∷ behind) after (subst (λ (l : List (SideDeed ManifestLine)). AreAnswered None l after) are answers) in
-      by_listing (steps_of deeds) did history before code steps texts among told split.0 split.2.0 split.1 split.2.1
+  pub yes_holds : (trace : List (SideStep ManifestLine)) (after : Option Listing) → AreAnswered None trace after → AllMoved τ H (steps_of trace) → History τ editions (ledger_after τ H (steps_of trace))
+      → YesHolds trace (ledger_after τ H (steps_of trace))
+  yes_holds trace after answers did history before behind line code steps texts are told =
+      let split = split_answers None before (Own line (Check code) steps texts ∷ behind) after (subst (λ (l : List (SideStep ManifestLine)). AreAnswered None l after) are answers) in
+      by_listing (steps_of trace) did history before code steps texts among told split.0 split.2.0 split.1 split.2.1
     where
-      parts : steps_of deeds ≡ steps_of before ++ (steps ++ steps_of behind)
-      parts = ap (λ (l : List (SideDeed ManifestLine)). steps_of l) are ∙ flat_map-append (λ (x : SideDeed ManifestLine). steps_in x) before (Own line (Check code) steps texts ∷ behind)
+      parts : steps_of trace ≡ steps_of before ++ (steps ++ steps_of behind)
+      parts = ap (λ (l : List (SideStep ManifestLine)). steps_of l) are ∙ flat_map-append (λ (x : SideStep ManifestLine). steps_in x) before (Own line (Check code) steps texts ∷ behind)
 
-      among : (d : Done) → Contains steps d → Contains (steps_of deeds) d
-      among d within = subst (λ (l : List Done). Contains l d) (sym parts) (Contains-append_right (steps_of before) (steps ++ steps_of behind) d (Contains-append_left steps (steps_of behind) d within))
+      among : (d : StepRecord) → Contains steps d → Contains (steps_of trace) d
+      among d within = subst (λ (l : List StepRecord). Contains l d) (sym parts) (Contains-append_right (steps_of before) (steps ++ steps_of behind) d (Contains-append_left steps (steps_of behind) d within))

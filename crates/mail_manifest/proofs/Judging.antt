@@ -4,14 +4,14 @@ use Rattle.std.specs.Prelude.{codes, ◌↔◌}
 use Rattle.std.proofs.lemmas.Option.{same_Some}
 use Rattle.bench_base.specs.declared.events.Reply.{Reply}
 use Rattle.bench_base.proofs.Facts.{some_none, unlike}
-use Rattle.line_extensions.specs.Deeds.{Done}
+use Rattle.line_extensions.specs.Trace.{StepRecord}
 use Rattle.mail_manifest.specs.Answers.{AreScanned, IsJudged, AreAccepted, IsGood}
 use Rattle.mail_manifest.specs.Causes.{Either, Finds}
 use Rattle.mail_manifest.specs.Holds.{IsYes}
 use Rattle.mail_manifest.specs.Listings.{Listing, code_of, postage_in_all, AllRead}
 use Rattle.mail_manifest.specs.Texts.{said_texts, yes_text, no_count_text, unread_text, no_total_text, no_piece_text}
-use Rattle.mail_manifest.specs.declared.said.Said.{Said}
-use Rattle.mail_manifest.specs.declared.said.Said.TheVariants as said
+use Rattle.mail_manifest.specs.declared.answer.Answer.{Answer}
+use Rattle.mail_manifest.specs.declared.answer.Answer.TheVariants as answers
 use Rattle.std.proofs.lemmas.Bool.{eqb-true}
 
 -- == the one or the other ==
@@ -68,24 +68,24 @@ module _ (m : Listing) where
   abbrev pub yes : List (List ℕ)
   yes = yes_text m.opening.count m.opening.total ∷ []
 
-  accepted_yes : (number : ℕ) (steps : List Done) (texts : List (List ℕ)) → AreScanned m number steps texts → AreAccepted m number steps → texts ≡ yes
+  accepted_yes : (number : ℕ) (steps : List StepRecord) (texts : List (List ℕ)) → AreScanned m number steps texts → AreAccepted m number steps → texts ≡ yes
   accepted_yes number [] texts scanned accepted = absurd scanned
   accepted_yes number (d ∷ rest) texts scanned accepted = elim scanned.1 [
     | inl did ↦ either_any (number == length m.marks) (λ last end. end.1) (λ more on. accepted_yes (number + 1) rest texts on accepted.2) did.1
     | inr other ↦ absurd (other.0 accepted.1)
   ]
 
-  yes_accepted : (number : ℕ) (steps : List Done) (texts : List (List ℕ)) → AreScanned m number steps texts → texts ≡ yes → AreAccepted m number steps
+  yes_accepted : (number : ℕ) (steps : List StepRecord) (texts : List (List ℕ)) → AreScanned m number steps texts → texts ≡ yes → AreAccepted m number steps
   yes_accepted number [] texts scanned is = absurd scanned
   yes_accepted number (d ∷ rest) texts scanned is = elim scanned.1 [
     | inl did ↦ either_any (number == length m.marks)
-        (λ last end. (scanned.0, did.0, subst (λ (l : List Done). AreAccepted m (number + 1) l) (sym end.0) (ap (λ (k : ℕ). k + 1) (eqb-true number (length m.marks) last))))
+        (λ last end. (scanned.0, did.0, subst (λ (l : List StepRecord). AreAccepted m (number + 1) l) (sym end.0) (ap (λ (k : ℕ). k + 1) (eqb-true number (length m.marks) last))))
         (λ more on. (scanned.0, did.0, yes_accepted (number + 1) rest texts on is)) did.1
     | inr other ↦ absurd (other_text m.opening.count m.opening.total (no_piece_text number d.reply) (piece_tenth number d.reply) (sym other.2 ∙ is))
   ]
 
   -- a yes tells the numbers of this manifest
-  scanned_yes : (number : ℕ) (steps : List Done) (texts : List (List ℕ)) → AreScanned m number steps texts → IsYes texts → texts ≡ yes
+  scanned_yes : (number : ℕ) (steps : List StepRecord) (texts : List (List ℕ)) → AreScanned m number steps texts → IsYes texts → texts ≡ yes
   scanned_yes number [] texts scanned is = absurd scanned
   scanned_yes number (d ∷ rest) texts scanned is = elim scanned.1 [
     | inl did ↦ either_any (number == length m.marks) (λ last end. end.1) (λ more on. scanned_yes (number + 1) rest texts on is) did.1
@@ -95,13 +95,13 @@ module _ (m : Listing) where
   -- == what comes before them ==
 
   -- the first cause is one of four
-  data IsCause (cause : Said) : Type 0 where
-    Counted : (n : ℕ) → cause ≡ said.NoCount n → IsCause cause
-    Coded : cause ≡ said.NoCode → IsCause cause
-    Read : (n : ℕ) → cause ≡ said.Unread n → IsCause cause
-    Summed : (n : ℕ) → cause ≡ said.NoTotal n → IsCause cause
+  data IsCause (cause : Answer) : Type 0 where
+    Counted : (n : ℕ) → cause ≡ answers.NoCount n → IsCause cause
+    Coded : cause ≡ answers.NoCode → IsCause cause
+    Read : (n : ℕ) → cause ≡ answers.Unread n → IsCause cause
+    Summed : (n : ℕ) → cause ≡ answers.NoTotal n → IsCause cause
 
-  cause_is : (code : List ℕ) (cause : Said) → Finds m code (Some cause) → IsCause cause
+  cause_is : (code : List ℕ) (cause : Answer) → Finds m code (Some cause) → IsCause cause
   cause_is code cause finds =
       either_any (length m.marks == m.opening.count)
       (λ complete coded. elim coded [
@@ -113,11 +113,11 @@ module _ (m : Listing) where
       ])
       (λ other is. Counted (length m.marks) (same_Some cause _ is)) finds
 
-  not_yes : (count total : ℕ) (cause : Said) → IsCause cause → said_texts cause ≡ yes_text count total ∷ [] → ⊥
-  not_yes count total cause (Counted n is) same = other_text count total (no_count_text n) (count_tenth n) (sym (ap (λ (s : Said). said_texts s) is) ∙ same)
-  not_yes count total cause (Coded is) same = other_text count total (codes "manifest no code") refl (sym (ap (λ (s : Said). said_texts s) is) ∙ same)
-  not_yes count total cause (Read n is) same = other_text count total (unread_text n) (unread_tenth n) (sym (ap (λ (s : Said). said_texts s) is) ∙ same)
-  not_yes count total cause (Summed n is) same = other_text count total (no_total_text n) (total_tenth n) (sym (ap (λ (s : Said). said_texts s) is) ∙ same)
+  not_yes : (count total : ℕ) (cause : Answer) → IsCause cause → said_texts cause ≡ yes_text count total ∷ [] → ⊥
+  not_yes count total cause (Counted n is) same = other_text count total (no_count_text n) (count_tenth n) (sym (ap (λ (s : Answer). said_texts s) is) ∙ same)
+  not_yes count total cause (Coded is) same = other_text count total (codes "manifest no code") refl (sym (ap (λ (s : Answer). said_texts s) is) ∙ same)
+  not_yes count total cause (Read n is) same = other_text count total (unread_text n) (unread_tenth n) (sym (ap (λ (s : Answer). said_texts s) is) ∙ same)
+  not_yes count total cause (Summed n is) same = other_text count total (no_total_text n) (total_tenth n) (sym (ap (λ (s : Answer). said_texts s) is) ∙ same)
 
   -- where there is none
   record IsSound (code : List ℕ) : Type 0 where
@@ -139,7 +139,7 @@ module _ (m : Listing) where
       ])
       (λ other is. absurd (some_none (sym is))) finds
 
-  none_by : (code : List ℕ) (cause : Option Said) → IsSound code → Finds m code cause → cause ≡ None
+  none_by : (code : List ℕ) (cause : Option Answer) → IsSound code → Finds m code cause → cause ≡ None
   none_by code cause sound finds =
       either_any (length m.marks == m.opening.count)
       (λ complete coded. elim coded [
@@ -153,20 +153,20 @@ module _ (m : Listing) where
 
   -- == the answer ==
 
-  good_by : (code : List ℕ) (cause : Option Said) (steps : List Done) (texts : List (List ℕ)) → Finds m code cause → IsJudged m cause steps texts → texts ≡ yes → IsGood m code steps
+  good_by : (code : List ℕ) (cause : Option Answer) (steps : List StepRecord) (texts : List (List ℕ)) → Finds m code cause → IsJudged m cause steps texts → texts ≡ yes → IsGood m code steps
   good_by code (Some cause) steps texts finds judged is = absurd (not_yes m.opening.count m.opening.total cause (cause_is code cause finds) (sym judged.1 ∙ is))
   good_by code None steps texts finds judged is =
       let sound = sound_by code finds in
       record { complete = sound.complete; coded = sound.coded; read = sound.read; total = sound.total; accepted = yes_accepted 1 steps texts judged is }
 
-  pub yes_told : (code : List ℕ) (cause : Option Said) (steps : List Done) (texts : List (List ℕ)) → Finds m code cause → IsJudged m cause steps texts → IsYes texts → texts ≡ yes
+  pub yes_told : (code : List ℕ) (cause : Option Answer) (steps : List StepRecord) (texts : List (List ℕ)) → Finds m code cause → IsJudged m cause steps texts → IsYes texts → texts ≡ yes
   yes_told code (Some cause) steps texts finds judged is = absurd (not_yes is.0 is.1 cause (cause_is code cause finds) (sym judged.1 ∙ is.2))
   yes_told code None steps texts finds judged is = scanned_yes 1 steps texts judged is
 
-  yes_by : (code : List ℕ) (cause : Option Said) (steps : List Done) (texts : List (List ℕ)) → Finds m code cause → IsJudged m cause steps texts → IsGood m code steps → texts ≡ yes
+  yes_by : (code : List ℕ) (cause : Option Answer) (steps : List StepRecord) (texts : List (List ℕ)) → Finds m code cause → IsJudged m cause steps texts → IsGood m code steps → texts ≡ yes
   yes_by code cause steps texts finds judged good =
       let sound : IsSound code = record { complete = good.complete; coded = good.coded; read = good.read; total = good.total } in
-      accepted_yes 1 steps texts (subst (λ (c : Option Said). IsJudged m c steps texts) (none_by code cause sound finds) judged) good.accepted
+      accepted_yes 1 steps texts (subst (λ (c : Option Answer). IsJudged m c steps texts) (none_by code cause sound finds) judged) good.accepted
 
-  pub yes_is_good : (code : List ℕ) (cause : Option Said) (steps : List Done) (texts : List (List ℕ)) → Finds m code cause → IsJudged m cause steps texts → (texts ≡ yes) ↔ IsGood m code steps
+  pub yes_is_good : (code : List ℕ) (cause : Option Answer) (steps : List StepRecord) (texts : List (List ℕ)) → Finds m code cause → IsJudged m cause steps texts → (texts ≡ yes) ↔ IsGood m code steps
   yes_is_good code cause steps texts finds judged = (good_by code cause steps texts finds judged, yes_by code cause steps texts finds judged)

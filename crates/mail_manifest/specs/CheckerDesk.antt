@@ -1,7 +1,7 @@
 -- The checker, as a desk.
 use Rattle.std.specs.Prelude.{◌≡◌}
 use Rattle.bench_base.specs.declared.events.Reply.{Reply}
-use Rattle.line_extensions.specs.declared.desk.Desk.{Ghosts}
+use Rattle.line_extensions.specs.declared.extension.Extension.{Ghosts}
 use Rattle.mail_manifest.specs.Courses.{Begins, GoesOn}
 use Rattle.mail_manifest.specs.ManifestLines.{IsManifestLine}
 use Rattle.mail_manifest.specs.Texts.{said_texts}

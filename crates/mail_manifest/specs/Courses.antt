@@ -4,26 +4,26 @@ use Rattle.bench_base.specs.declared.events.Event.{Event}
 use Rattle.bench_base.specs.declared.events.Event.TheVariants as ev
 use Rattle.bench_base.specs.declared.events.Reply.{Reply}
 use Rattle.scan_laws.specs.Acceptances.{IsAccepted}
-use Rattle.line_extensions.specs.declared.desk.Next.{Next}
-use Rattle.line_extensions.specs.declared.desk.Next.TheVariants.{Step, Say}
+use Rattle.line_extensions.specs.declared.extension.Next.{Next}
+use Rattle.line_extensions.specs.declared.extension.Next.TheVariants.{Step, Say}
 use Rattle.mail_manifest.specs.Causes.{Either, Finds}
 use Rattle.mail_manifest.specs.Listings.{Listing, opened, with_mark, mark_at, code_of}
 use Rattle.mail_manifest.specs.View.{listing_of, said_of}
 use Rattle.mail_manifest.specs.declared.checker.Checker.{Checker}
 use Rattle.mail_manifest.specs.declared.opening.ManifestLine.{ManifestLine}
 use Rattle.mail_manifest.specs.declared.opening.ManifestLine.TheVariants.{Open, Piece, Code, Check}
-use Rattle.mail_manifest.specs.declared.said.Said.{Said}
-use Rattle.mail_manifest.specs.declared.said.Said.TheVariants as said
+use Rattle.mail_manifest.specs.declared.answer.Answer.{Answer}
+use Rattle.mail_manifest.specs.declared.answer.Answer.TheVariants as answers
 
 -- the scan of the piece of this number, counted from 1: of its mark, under the manifest's first number and those that follow it
 abbrev pub scan_of : Listing → ℕ → Event
 scan_of m number = ev.ScanHex (m.opening.first + (number - 1)) (mark_at m (number - 1))
 
-abbrev pub yes_of : Listing → Said
-yes_of m = said.Yes m.opening.count m.opening.total
+abbrev pub yes_of : Listing → Answer
+yes_of m = answers.Yes m.opening.count m.opening.total
 
 -- it answers so, and the manifest is this one then
-pub record Answers (answer : Said) (after : Option Listing) (next : Next) (new : Checker) : Type 0 where
+pub record Answers (answer : Answer) (after : Option Listing) (next : Next) (new : Checker) : Type 0 where
   pub ends : next ≡ Say
   pub answers : said_of new ≡ answer
   pub leaves : listing_of new ≡ after
@@ -31,7 +31,7 @@ pub record Answers (answer : Said) (after : Option Listing) (next : Next) (new :
 -- it asks for the scan of this piece
 pub record Scans (m : Listing) (number : ℕ) (next : Next) (new : Checker) : Type 0 where
   pub asks : next ≡ Step (scan_of m number)
-  pub waits : said_of new ≡ said.Scanning number
+  pub waits : said_of new ≡ answers.Scanning number
   pub leaves : listing_of new ≡ Some m
 
 -- so it does for the manifest that it has
@@ -44,32 +44,32 @@ pub record Scanning (number : ℕ) (old : Checker) (next : Next) (new : Checker)
 
 abbrev pub Adds : Listing → List ℕ → Next → Checker → Type 0
 Adds m mark next new =
-    Either (length m.marks == m.opening.count) (Answers said.Full (Some m) next new)
-    (Answers (said.Piece (length m.marks + 1)) (Some (with_mark m mark)) next new)
+    Either (length m.marks == m.opening.count) (Answers answers.Full (Some m) next new)
+    (Answers (answers.Piece (length m.marks + 1)) (Some (with_mark m mark)) next new)
 
 -- refused for the first cause that there is; otherwise its pieces are scanned
-abbrev pub ByCause : Listing → Option Said → Next → Checker → Type 0
+abbrev pub ByCause : Listing → Option Answer → Next → Checker → Type 0
 ByCause m (Some cause) next new = Answers cause (Some m) next new
 ByCause m None next new = Scans m 1 next new
 
 pub record Checks (m : Listing) (code : List ℕ) (next : Next) (new : Checker) : Type 0 where
-  pub cause : Option Said
+  pub cause : Option Answer
   pub finds : Finds m code cause
   pub does : ByCause m cause next new
 
 -- a line about the manifest that was opened
 abbrev pub BeginsOn : Listing → ManifestLine → Next → Checker → Type 0
-BeginsOn m (Open o) next new = Answers (said.Opened o.count) (Some (opened o)) next new
+BeginsOn m (Open o) next new = Answers (answers.Opened o.count) (Some (opened o)) next new
 BeginsOn m (Piece mark) next new = Adds m mark next new
-BeginsOn m Code next new = Answers (said.Code (code_of m)) (Some m) next new
+BeginsOn m Code next new = Answers (answers.Code (code_of m)) (Some m) next new
 BeginsOn m (Check code) next new = Checks m code next new
 
 -- a line where none was opened
 abbrev pub BeginsBare : ManifestLine → Next → Checker → Type 0
-BeginsBare (Open o) next new = Answers (said.Opened o.count) (Some (opened o)) next new
-BeginsBare (Piece mark) next new = Answers said.NoManifest None next new
-BeginsBare Code next new = Answers said.NoManifest None next new
-BeginsBare (Check code) next new = Answers said.NoManifest None next new
+BeginsBare (Open o) next new = Answers (answers.Opened o.count) (Some (opened o)) next new
+BeginsBare (Piece mark) next new = Answers answers.NoManifest None next new
+BeginsBare Code next new = Answers answers.NoManifest None next new
+BeginsBare (Check code) next new = Answers answers.NoManifest None next new
 
 abbrev pub BeginsWith : Option Listing → ManifestLine → Next → Checker → Type 0
 BeginsWith (Some m) own next new = BeginsOn m own next new
@@ -84,13 +84,13 @@ Begins old own next new = BeginsWith (listing_of old) own next new
 abbrev pub GoesBy : Listing → ℕ → Reply → Next → Checker → Type 0
 GoesBy m number reply next new =
     (IsAccepted reply × Either (number == length m.marks) (Answers (yes_of m) (Some m) next new) (Scans m (number + 1) next new))
-    ⊎ ((IsAccepted reply → ⊥) × Answers (said.NoPiece number reply) (Some m) next new)
+    ⊎ ((IsAccepted reply → ⊥) × Answers (answers.NoPiece number reply) (Some m) next new)
 
 pub record Scanned (number : ℕ) (reply : Reply) (old : Checker) (next : Next) (new : Checker) : Type 0 where
   pub listing : Listing
   pub here : listing_of old ≡ Some listing
   pub goes : GoesBy listing number reply next new
 
-abbrev pub GoesOn : Said → Reply → Checker → Next → Checker → Type 0
-GoesOn (said.Scanning number) reply old next new = Scanned number reply old next new
+abbrev pub GoesOn : Answer → Reply → Checker → Next → Checker → Type 0
+GoesOn (answers.Scanning number) reply old next new = Scanned number reply old next new
 GoesOn _ reply old next new = (next ≡ Say) × (new ≡ old)

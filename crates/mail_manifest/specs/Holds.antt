@@ -4,8 +4,8 @@ use Rattle.bench_base.specs.declared.ledger.Commit.{Commit}
 use Rattle.bench_base.specs.declared.ledger.Commit.TheVariants.{Accepted}
 use Rattle.bench_base.specs.declared.refusals.MarkFault.{MarkFault}
 use Rattle.bench_base.specs.Ledger.{Ledger, IsReleased, counted}
-use Rattle.line_extensions.specs.Deeds.{Done}
-use Rattle.line_extensions.specs.SideDeeds.{SideDeed, Own}
+use Rattle.line_extensions.specs.Trace.{StepRecord}
+use Rattle.line_extensions.specs.SideTrace.{SideStep, Own}
 use Rattle.indicium.specs.declared.Mark.{Mark}
 use Rattle.indicium.specs.Marks.{read_mark}
 use Rattle.ledger_terms.specs.Further.{postage_of}
@@ -48,13 +48,13 @@ abbrev pub IsYes : List (List ℕ) → Type 0
 IsYes texts = (count total : ℕ) × (texts ≡ yes_text count total ∷ [])
 
 -- behind these lines there was a manifest of which the answer tells, and it holds by the ledger
-pub record IsGoodBehind (before : List (SideDeed ManifestLine)) (texts : List (List ℕ)) (H : Ledger) : Type 0 where
+pub record IsGoodBehind (before : List (SideStep ManifestLine)) (texts : List (List ℕ)) (H : Ledger) : Type 0 where
   pub listing : Listing
   pub here : AreAnswered None before (Some listing)
   pub tells : texts ≡ yes_text listing.opening.count listing.opening.total ∷ []
   pub holds : ManifestHolds listing H
 
--- so it is at each check of the deeds that was answered yes
-abbrev pub YesHolds : List (SideDeed ManifestLine) → Ledger → Type 0
-YesHolds deeds H = (before behind : List (SideDeed ManifestLine)) (line code : List ℕ) (steps : List Done) (texts : List (List ℕ))
-    → deeds ≡ before ++ Own line (Check code) steps texts ∷ behind → IsYes texts → IsGoodBehind before texts H
+-- so it is at each check of the steps that was answered yes
+abbrev pub YesHolds : List (SideStep ManifestLine) → Ledger → Type 0
+YesHolds trace H = (before behind : List (SideStep ManifestLine)) (line code : List ℕ) (steps : List StepRecord) (texts : List (List ℕ))
+    → trace ≡ before ++ Own line (Check code) steps texts ∷ behind → IsYes texts → IsGoodBehind before texts H

@@ -70,7 +70,7 @@ postage_of mark = postage_in (read_mark mark)
 abbrev pub postage_in_all : Listing → ℕ
 postage_in_all m = sum_by postage_of m.marks
 
--- the marks at the front, so many of them, read
+-- the marks at the prefix, so many of them, read
 abbrev pub ReadTo : ℕ → Listing → Type 0
 ReadTo to m = (at : ℕ) → at < to → does_read (mark_at m at) ≡ true
 

@@ -4,12 +4,12 @@ use Rattle.bench_base.specs.declared.ledger.Entry.TheVariants.{Begin}
 use Rattle.bench_base.specs.Ledger.{Ledger}
 use Rattle.line_runs.specs.declared.status.SideStatus.{SideStatus}
 use Rattle.line_extensions.specs.Desks.{world}
-use Rattle.line_extensions.specs.SideDeeds.{SideDeed, steps_of}
+use Rattle.line_extensions.specs.SideTrace.{SideStep, steps_of}
 use Rattle.ledger_moves.specs.Tariffs.{Tariff}
 use Rattle.bench_abstraction.specs.Tariff.{IsOfTexts}
 use Rattle.bench.specs.Benches.{Nodes}
 use Rattle.script_replay.specs.Chains.{SceneOf}
-use Rattle.script_replay.specs.Deeds.{ledger_after, AreUnforged}
+use Rattle.script_replay.specs.Trace.{ledger_after, AreUnforged}
 use Rattle.script_replay.specs.Run.{Unforged}
 use Rattle.script_replay.specs.Sides.{DidSide}
 use Rattle.script_replay.specs.Throughout.{StandsFor}
@@ -20,15 +20,15 @@ use Rattle.mail_manifest.specs.View.{listing_of}
 use Rattle.mail_manifest.specs.declared.checker.Checker.{Checker}
 use Rattle.mail_manifest.specs.declared.opening.ManifestLine.{ManifestLine}
 
--- A checker that had no manifest and the bench did the deeds, and each line about the manifest has its answer, by the manifest that was opened last and
+-- A checker that had no manifest and the bench did the steps, and each line about the manifest has its answer, by the manifest that was opened last and
 -- by the replies to its scans. By a history for which the bench stood, and where nothing was forged, each manifest that was found good holds by the
--- ledger that the deeds leave.
-pub record DidManifest (n : Nodes) (old new : SceneOf n) (outcome : SideStatus) (deeds : List (SideDeed ManifestLine)) : Type 0 where
+-- ledger that the steps leave.
+pub record DidManifest (n : Nodes) (old new : SceneOf n) (outcome : SideStatus) (trace : List (SideStep ManifestLine)) : Type 0 where
   pub before : Checker
   pub after : Checker
   pub none : listing_of before ≡ None
-  pub side : DidSide n checker_desk (world old before) (world new after) outcome deeds
-  pub answers : AreAnswered None deeds (listing_of after)
+  pub side : DidSide n checker_desk (world old before) (world new after) outcome trace
+  pub answers : AreAnswered None trace (listing_of after)
   pub holds : (τ : Tariff) (L : Ledger) → IsOfTexts τ → StandsFor n τ old.bench L → n.storage.tells
-      → AreUnforged τ Unforged (Begin ∷ L) (steps_of deeds)
-      → YesHolds deeds (ledger_after τ (Begin ∷ L) (steps_of deeds))
+      → AreUnforged τ Unforged (Begin ∷ L) (steps_of trace)
+      → YesHolds trace (ledger_after τ (Begin ∷ L) (steps_of trace))

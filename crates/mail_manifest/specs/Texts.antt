@@ -3,8 +3,8 @@ use Rattle.std.specs.Prelude.{ℕ, List, [], ◌∷◌, codes, decimal}
 use Rattle.bench_base.specs.declared.events.Reply.{Reply}
 use Rattle.script_words.specs.Words.{joined, hex_word}
 use Rattle.script_text.specs.Texts.{text_of}
-use Rattle.mail_manifest.specs.declared.said.Said.{Said}
-use Rattle.mail_manifest.specs.declared.said.Said.TheVariants as said
+use Rattle.mail_manifest.specs.declared.answer.Answer.{Answer}
+use Rattle.mail_manifest.specs.declared.answer.Answer.TheVariants as answers
 
 unfoldable pub open_text : ℕ → List ℕ
 open_text count = joined (codes "manifest" ∷ codes "open" ∷ decimal count ∷ [])
@@ -32,17 +32,17 @@ unfoldable pub no_piece_text : ℕ → Reply → List ℕ
 no_piece_text number reply = joined (codes "manifest" ∷ codes "no" ∷ codes "piece" ∷ decimal number ∷ text_of reply ∷ [])
 
 -- the texts of an answer: there is none while a scan is awaited
-abbrev pub said_texts : Said → List (List ℕ)
-said_texts said.Nothing = []
-said_texts (said.Scanning number) = []
-said_texts said.NoManifest = codes "refused manifest none" ∷ []
-said_texts said.Full = codes "refused manifest full" ∷ []
-said_texts (said.Opened count) = open_text count ∷ []
-said_texts (said.Piece number) = piece_text number ∷ []
-said_texts (said.Code code) = code_text code ∷ []
-said_texts (said.Yes count total) = yes_text count total ∷ []
-said_texts (said.NoCount count) = no_count_text count ∷ []
-said_texts said.NoCode = codes "manifest no code" ∷ []
-said_texts (said.Unread number) = unread_text number ∷ []
-said_texts (said.NoTotal sum) = no_total_text sum ∷ []
-said_texts (said.NoPiece number reply) = no_piece_text number reply ∷ []
+abbrev pub said_texts : Answer → List (List ℕ)
+said_texts answers.Nothing = []
+said_texts (answers.Scanning number) = []
+said_texts answers.NoManifest = codes "refused manifest none" ∷ []
+said_texts answers.Full = codes "refused manifest full" ∷ []
+said_texts (answers.Opened count) = open_text count ∷ []
+said_texts (answers.Piece number) = piece_text number ∷ []
+said_texts (answers.Code code) = code_text code ∷ []
+said_texts (answers.Yes count total) = yes_text count total ∷ []
+said_texts (answers.NoCount count) = no_count_text count ∷ []
+said_texts answers.NoCode = codes "manifest no code" ∷ []
+said_texts (answers.Unread number) = unread_text number ∷ []
+said_texts (answers.NoTotal sum) = no_total_text sum ∷ []
+said_texts (answers.NoPiece number reply) = no_piece_text number reply ∷ []

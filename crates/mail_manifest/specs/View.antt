@@ -3,12 +3,12 @@ use Rattle.std.specs.Prelude.{Option}
 use Rattle.mail_manifest.specs.Held.{listing_in}
 use Rattle.mail_manifest.specs.Listings.{Listing}
 use Rattle.mail_manifest.specs.declared.checker.Checker.{Checker}
-use Rattle.mail_manifest.specs.declared.said.Said.{Said}
+use Rattle.mail_manifest.specs.declared.answer.Answer.{Answer}
 
 -- the manifest that was opened last
 abbrev pub listing_of : Checker → Option Listing
 listing_of k = listing_in k.manifest
 
 -- what it answered last, or waits for
-abbrev pub said_of : Checker → Said
+abbrev pub said_of : Checker → Answer
 said_of k = k.said

@@ -13,10 +13,10 @@ ghost use Rattle.mail_manifest.specs.View.{listing_of, said_of};
 ghost use Rattle.mail_manifest.specs.Waits.{IsWaiting, pieces_left};
 ghost use Rattle.mail_manifest.specs.Wanting as wanting;
 
+use crate::answer::Answer;
 use crate::checker::Checker;
 use crate::manifest::Manifest;
 use crate::opening::{ManifestLine, Opening};
-use crate::said::Said;
 use bench_base::bytes::Given;
 use bench_base::events::{Event, Reply};
 use line_extensions::Next;
@@ -51,17 +51,17 @@ fn scan_for(manifest: &Manifest, number: u16) -> Next
 }
 
 // Why the marks are refused before any scan.
-fn marks_cause(manifest: &Manifest) -> Option<Said>
+fn marks_cause(manifest: &Manifest) -> Option<Answer>
     ensures { FindsMarks (listed manifest.now) result }
 {
     let sum = match manifest.postage() {
         Ok(sum) => sum,
-        Err(number) => return Some(Said::Unread(number)),
+        Err(number) => return Some(Answer::Unread(number)),
     };
     if sum == manifest.opening.total {
         return None;
     }
-    Some(Said::NoTotal(sum))
+    Some(Answer::NoTotal(sum))
 }
 
 // Whether this is the code of the manifest.
@@ -72,42 +72,42 @@ fn is_coded(manifest: &Manifest, code: &[u8; 32]) -> bool
 }
 
 // Why a manifest is refused before any scan, where a check has this code.
-fn first_cause(manifest: &Manifest, code: &[u8; 32]) -> Option<Said>
+fn first_cause(manifest: &Manifest, code: &[u8; 32]) -> Option<Answer>
     ensures { Finds (listed manifest.now) code.now result }
 {
     let pieces = manifest.pieces();
     if pieces != manifest.opening.count {
-        return Some(Said::NoCount(pieces));
+        return Some(Answer::NoCount(pieces));
     }
     if !is_coded(manifest, code) {
-        return Some(Said::NoCode);
+        return Some(Answer::NoCode);
     }
     marks_cause(manifest)
 }
 
 // Adds a piece to a manifest, where there is room for it.
-fn add_to(manifest: &mut Manifest, mark: &[u8; 64]) -> Said
+fn add_to(manifest: &mut Manifest, mark: &[u8; 64]) -> Answer
     ensures full { length (listed manifest.old).marks ≡ (listed manifest.old).opening.count
-        → (result ≡ Said.Full) × (listed manifest.new ≡ listed manifest.old) }
+        → (result ≡ Answer.Full) × (listed manifest.new ≡ listed manifest.old) }
     ensures adds { length (listed manifest.old).marks ≢ (listed manifest.old).opening.count
-        → (result ≡ Said.Piece (length (listed manifest.old).marks + 1))
+        → (result ≡ Answer.Piece (length (listed manifest.old).marks + 1))
         × (listed manifest.new ≡ with_mark (listed manifest.old) mark.now) }
 {
     let pieces = manifest.pieces();
     if pieces == manifest.opening.count {
-        return Said::Full;
+        return Answer::Full;
     }
     manifest.add(mark);
-    Said::Piece(pieces + 1)
+    Answer::Piece(pieces + 1)
 }
 
 // The answer where this piece, which was accepted, is the last one.
-fn good_behind(manifest: &Manifest, number: u16) -> Option<Said>
+fn good_behind(manifest: &Manifest, number: u16) -> Option<Answer>
     ensures last { number ≡ length (listed manifest.now).marks → result ≡ Some (yes_of (listed manifest.now)) }
     ensures more { number ≢ length (listed manifest.now).marks → result ≡ None }
 {
     if number == manifest.pieces() {
-        return Some(Said::Yes(manifest.opening.count, manifest.opening.total));
+        return Some(Answer::Yes(manifest.opening.count, manifest.opening.total));
     }
     None
 }
@@ -116,16 +116,16 @@ impl Checker {
     /// A checker with no manifest.
     pub fn new() -> Checker
         ensures none { listing_of result ≡ None }
-        ensures silent { said_of result ≡ Said.Nothing }
+        ensures silent { said_of result ≡ Answer.Nothing }
     {
         Checker {
             manifest: None,
-            said: Said::Nothing,
+            said: Answer::Nothing,
         }
     }
 
     // Answers so.
-    fn say(&mut self, said: Said) -> Next
+    fn say(&mut self, said: Answer) -> Next
         requires waits { IsWaiting (listing_of self.old) said }
         ensures { Answers said (listing_of self.old) result self.new }
     {
@@ -136,11 +136,11 @@ impl Checker {
     // Opens a manifest, and drops an earlier one. Where memory is wanting all stays.
     fn open(&mut self, alloc: Global, opening: &Opening) -> Result<Next, AllocError>
         requires range { IsOpening opening.now }
-        ensures opens { IfOk result (λ next. Answers (Said.Opened opening.now.count) (Some (opened opening.now)) next self.new) }
+        ensures opens { IfOk result (λ next. Answers (Answer.Opened opening.now.count) (Some (opened opening.now)) next self.new) }
         ensures stays { OnErr result (self.new ≡ self.old) }
     {
         let manifest = Manifest::open(alloc, *opening)?;
-        self.said = Said::Opened(opening.count);
+        self.said = Answer::Opened(opening.count);
         self.manifest = Some(manifest);
         Ok(Next::Say)
     }
@@ -149,9 +149,9 @@ impl Checker {
     fn piece(&mut self, mark: &[u8; 64]) -> Next
         ensures { Begins self.old (lines.Piece mark.now) result self.new }
     {
-        self.said = Said::Nothing;
+        self.said = Answer::Nothing;
         let said = match &mut self.manifest {
-            None => Said::NoManifest,
+            None => Answer::NoManifest,
             Some(manifest) => add_to(manifest, mark),
         };
         self.say(said)
@@ -162,15 +162,15 @@ impl Checker {
         ensures { Begins self.old lines.Code result self.new }
     {
         let said = match &self.manifest {
-            None => Said::NoManifest,
-            Some(manifest) => Said::Code(manifest.code()),
+            None => Answer::NoManifest,
+            Some(manifest) => Answer::Code(manifest.code()),
         };
         self.say(said)
     }
 
     // Asks for the scan of the piece of this number.
     fn scan(&mut self, number: u16) -> Next
-        requires waits { IsWaiting (listing_of self.old) (Said.Scanning number) }
+        requires waits { IsWaiting (listing_of self.old) (Answer.Scanning number) }
         ensures scans { Scanning number self.old result self.new }
         ensures may { MayAsk result (pieces_left (listing_of self.new) (said_of self.new)) }
     {
@@ -178,7 +178,7 @@ impl Checker {
             None => unreachable!(),
             Some(manifest) => scan_for(manifest, number),
         };
-        self.said = Said::Scanning(number);
+        self.said = Answer::Scanning(number);
         next
     }
 
@@ -188,7 +188,7 @@ impl Checker {
         ensures may { MayAsk result (pieces_left (listing_of self.new) (said_of self.new)) }
     {
         let cause = match &self.manifest {
-            None => Some(Said::NoManifest),
+            None => Some(Answer::NoManifest),
             Some(manifest) => first_cause(manifest, code),
         };
         match cause {
@@ -199,14 +199,14 @@ impl Checker {
 
     // After the scan of a piece.
     pub(crate) fn scanned(&mut self, number: u16, told: &Reply) -> Next
-        requires waits { said_of self.old ≡ Said.Scanning number }
+        requires waits { said_of self.old ≡ Answer.Scanning number }
         ensures goes { Scanned number told.now self.old result self.new }
         ensures may { MayAsk result (pieces_left (listing_of self.new) (said_of self.new)) }
         ensures fewer { IsStep result → pieces_left (listing_of self.new) (said_of self.new) < pieces_left
             (listing_of self.old) (said_of self.old) }
     {
         if !is_accepted(told) {
-            return self.say(Said::NoPiece(number, *told));
+            return self.say(Answer::NoPiece(number, *told));
         }
         let good = match &self.manifest {
             None => unreachable!(),

@@ -31,7 +31,7 @@ fn run_over<S: BufSource, K: Sink>(
     requires tells { ⟦<MemNv as Nv>⟧.tells }
     requires stands { Stands ⟦<Bench<MemNv> as HasNodes>⟧.nodes (bench_of bench) [] }
     requires made { IsOverFresh (bench_of bench) }
-    ensures ran { RanSideFresh ⟦<Bench<MemNv> as HasNodes>⟧.nodes ⟦<Checker as line_extensions::Desk>⟧
+    ensures ran { RanSideFresh ⟦<Bench<MemNv> as HasNodes>⟧.nodes ⟦<Checker as line_extensions::Extension>⟧
         (λ made. IsOverFresh made) (codes "manifest") result (map string_bytes words.now)
         (λ old new. DidFreshManifest ⟦<Bench<MemNv> as HasNodes>⟧.nodes old new result)
         (streams_of S.Source K.Sink ⟦<MemSource as Source>⟧ ⟦<MemSink as Sink>⟧
@@ -57,7 +57,7 @@ pub fn run_fresh_manifest<S: BufSource, K: Sink>(
     printer: &mut MemSink,
 ) -> Option<SideStatus>
     ensures ran { IfSome result (λ outcome. RanSideFresh ⟦<Bench<MemNv> as HasNodes>⟧.nodes
-        ⟦<Checker as line_extensions::Desk>⟧ (λ made. IsOverFresh made) (codes "manifest") outcome
+        ⟦<Checker as line_extensions::Extension>⟧ (λ made. IsOverFresh made) (codes "manifest") outcome
         (map string_bytes words.now)
         (λ old new. DidFreshManifest ⟦<Bench<MemNv> as HasNodes>⟧.nodes old new outcome)
         (streams_of S.Source K.Sink ⟦<MemSource as Source>⟧ ⟦<MemSink as Sink>⟧

@@ -1,6 +1,7 @@
 //! Bulk manifests: a list of marks is good if and only if every piece on it is accepted.
 #![tactic(auto)]
 
+mod answer;
 mod checker;
 mod courses;
 pub mod fresh;
@@ -10,10 +11,9 @@ mod opening;
 mod own;
 mod pieces;
 mod run;
-mod said;
 
+pub use answer::Answer;
 pub use checker::Checker;
 pub use manifest::Manifest;
 pub use opening::{MOST_PIECES, ManifestLine, Opening};
 pub use run::run_manifest;
-pub use said::Said;

@@ -9,15 +9,15 @@ ghost use Rattle.mail_manifest.specs.Waits.{pieces_left};
 ghost use Rattle.mail_manifest.specs.Wanting as wanting;
 ghost use Rattle.mail_manifest.specs.declared.opening.ManifestLine.{ManifestLine as TheLine};
 
+use crate::answer::Answer;
 use crate::checker::Checker;
 use crate::lines::read_manifest_line;
-use crate::said::Said;
 use bench_base::events::{Event, Reply};
-use line_extensions::{Desk, Next};
+use line_extensions::{Extension, Next};
 use script_words::Line;
 use std::alloc::{AllocError, Global};
 
-impl Desk for Checker {
+impl Extension for Checker {
     type Heard = Reply;
 
     ghost Own = { TheLine };
@@ -52,7 +52,7 @@ impl Desk for Checker {
 
     fn go_on(&mut self, told: &Reply) -> Next {
         match self.said {
-            Said::Scanning(number) => self.scanned(number, told),
+            Answer::Scanning(number) => self.scanned(number, told),
             _ => Next::Say,
         }
     }

@@ -9,8 +9,8 @@ ghost use Rattle.script_replay.specs.Streams.{streams_of};
 use crate::checker::Checker;
 use bench::{Bench, HasNodes};
 use bench_base::stream::{Sink, Source};
-use line_extensions::Desk;
 use ledger_laws::laws::histories;
+use line_extensions::Extension;
 use nv_model::Nv;
 use script_replay::side::run_side;
 use script_replay::status::SideStatus;
@@ -31,15 +31,15 @@ pub fn run_manifest<S: BufSource, R: Source, K: Sink, P: Sink, N: Nv + Drop>(
 ) -> SideStatus
     requires ready { IsReady (bench_of bench.old) }
     ensures ready { IsReady (bench_of bench.new) }
-    ensures ran { RanSide ⟦<Checker as Desk>⟧ (codes "manifest") result (map string_bytes words.now)
+    ensures ran { RanSide ⟦<Checker as Extension>⟧ (codes "manifest") result (map string_bytes words.now)
         (DidManifest ⟦<Bench<N> as HasNodes>⟧.nodes (scene_of R.Source P.Sink bench.old rates.old printer.old)
         (scene_of R.Source P.Sink bench.new rates.new printer.new) result)
         (streams_of S.Source K.Sink R.Source P.Sink script.old report.old rates.old printer.old)
         (streams_of S.Source K.Sink R.Source P.Sink script.new report.new rates.new printer.new) }
-    ensures ends { EndsSide ⟦<Checker as Desk>⟧ (codes "manifest") result (map string_bytes words.now)
+    ensures ends { EndsSide ⟦<Checker as Extension>⟧ (codes "manifest") result (map string_bytes words.now)
         (streams_of S.Source K.Sink R.Source P.Sink script.old report.old rates.old printer.old)
         (streams_of S.Source K.Sink R.Source P.Sink script.new report.new rates.new printer.new) }
-    ensures completes { CompletesSide ⟦<Checker as Desk>⟧ (codes "manifest") result (map string_bytes words.now)
+    ensures completes { CompletesSide ⟦<Checker as Extension>⟧ (codes "manifest") result (map string_bytes words.now)
         (streams_of S.Source K.Sink R.Source P.Sink script.old report.old rates.old printer.old)
         (streams_of S.Source K.Sink R.Source P.Sink script.new report.new rates.new printer.new) }
     ensures never_stops { result ≢ SideStatus.Stopped }

@@ -1,5 +1,5 @@
 //! The digest of runs: each covers the one before it, so who kept one sees whether the runs before were changed.
-use audit_clerk::Run;
+use audit_recount::Run;
 use sha2::{Digest, Sha256};
 
 /// A digest of runs.

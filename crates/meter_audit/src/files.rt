@@ -1,6 +1,6 @@
 //! The files of runs: NAME.script, NAME.report and NAME.rates, which is empty where it is missing, as the meter takes it.
 use crate::faults::{Fault, or_memory};
-use audit_clerk::Run;
+use audit_recount::Run;
 use audit_words::shown_text;
 use std::fs::{self, File};
 use std::io::{self, Read};
@@ -9,8 +9,8 @@ use std::io::{self, Read};
 const MOST_RATES: u64 = 1_048_592;
 
 // The text with another after it.
-fn joined(rt: &HostRuntime, front: &str, back: &str) -> Result<String, Fault> {
-    let mut text = or_memory(String::from_str(rt.alloc(), front))?;
+fn joined(rt: &HostRuntime, prefix: &str, back: &str) -> Result<String, Fault> {
+    let mut text = or_memory(String::from_str(rt.alloc(), prefix))?;
     or_memory(text.push_str(back))?;
     Ok(text)
 }
@@ -96,7 +96,7 @@ pub fn open_of(rt: &HostRuntime, name: &str, ending: &str) -> Result<File, Fault
 }
 
 // The first bytes of an open file.
-fn front_of(rt: &HostRuntime, opened: File, most: u64) -> io::Result<Vec<u8>> {
+fn prefix_of(rt: &HostRuntime, opened: File, most: u64) -> io::Result<Vec<u8>> {
     let mut bytes = Vec::new(rt.alloc());
     opened.take(most).read_to_end(&mut bytes)?;
     Ok(bytes)
@@ -109,7 +109,7 @@ pub fn first_bytes(
     opened: File,
     most: u64,
 ) -> Result<Vec<u8>, Fault> {
-    match front_of(rt, opened, most) {
+    match prefix_of(rt, opened, most) {
         Ok(bytes) => Ok(bytes),
         Err(error) => Err(fault_at(rt, file, &error)),
     }

@@ -9,17 +9,17 @@ const SCRIPT: &str = ".script";
 
 // The folder's name with a slash after it.
 fn with_slash(rt: &HostRuntime, folder: &str) -> Result<String, Fault> {
-    let mut front = or_memory(String::from_str(rt.alloc(), folder))?;
+    let mut prefix = or_memory(String::from_str(rt.alloc(), folder))?;
     if !folder.ends_with('/') {
-        or_memory(front.push('/'))?;
+        or_memory(prefix.push('/'))?;
     }
-    Ok(front)
+    Ok(prefix)
 }
 
 // Adds the run of this file, if it is the script of one.
 fn add_run(
     rt: &HostRuntime,
-    front: &str,
+    prefix: &str,
     file: &str,
     names: &mut Vec<String>,
 ) -> Result<(), Fault> {
@@ -29,14 +29,14 @@ fn add_run(
     if run.is_empty() {
         return Ok(());
     }
-    let mut name = or_memory(String::from_str(rt.alloc(), front))?;
+    let mut name = or_memory(String::from_str(rt.alloc(), prefix))?;
     or_memory(name.push_str(run))?;
     or_memory(names.push(name))
 }
 
 // The runs in the folder, in the order in which it has them.
 fn listed(rt: &HostRuntime, folder: &str) -> Result<Vec<String>, Fault> {
-    let front = with_slash(rt, folder)?;
+    let prefix = with_slash(rt, folder)?;
     let mut names = Vec::new(rt.alloc());
     let Ok(entries) = fs::read_dir(rt, folder) else {
         return Err(unusable(rt, folder));
@@ -45,7 +45,7 @@ fn listed(rt: &HostRuntime, folder: &str) -> Result<Vec<String>, Fault> {
         let Ok(entry) = entry else {
             return Err(unusable(rt, folder));
         };
-        add_run(rt, front.as_str(), entry.file_name(), &mut names)?;
+        add_run(rt, prefix.as_str(), entry.file_name(), &mut names)?;
     }
     Ok(names)
 }

@@ -18,9 +18,9 @@ mod verdicts;
 
 ghost use Rattle.trace_bench.specs.Seeing.{IsReady, audit_of};
 
-use audit_clerk::Clerk;
 use audit_journal::Form;
 use audit_pages::{tell_page, tell_table};
+use audit_recount::Recount;
 use audit_words::{Asked, Call, HELP, VERSION, Words, WordsFault, read_call};
 use bench_base::numbers::DevNo;
 use bench_base::words::Node;
@@ -108,7 +108,7 @@ fn tell_below(
     rt: &HostRuntime,
     plan: &Plan,
     auditor: &Auditor,
-    clerk: &Clerk,
+    clerk: &Recount,
     gathered: &Gathered,
 ) -> Result<(), Fault>
     requires ready { IsReady (audit_of auditor.now) }
@@ -132,7 +132,7 @@ fn judge_words(
     rt: &HostRuntime,
     planned: Result<Plan, Fault>,
     auditor: &mut Auditor,
-    clerk: &mut Clerk,
+    clerk: &mut Recount,
 ) -> Result<u8, Fault>
     requires ready { IsReady (audit_of auditor.old) }
     requires ready_clerk { IsReady (audit_of clerk.old.auditor) }
@@ -157,7 +157,7 @@ fn judge_words(
 // Ends the journal, which is closed on each way out: the exit status. That of a finding stays, and a fault before is the one that is reported.
 fn end_journal(
     rt: &HostRuntime,
-    clerk: &mut Clerk,
+    clerk: &mut Recount,
     judged: Result<u8, Fault>,
 ) -> Result<u8, Fault> {
     let ended = or_book(clerk.book.end(rt));
@@ -188,7 +188,7 @@ fn audit(rt: &HostRuntime, words: Words) -> Result<u8, Fault> {
     let Ok(mut auditor) = Auditor::new(rt.alloc(), is_kept) else {
         return Err(Fault::Memory);
     };
-    let Ok(mut clerk) = Clerk::new(rt.alloc(), form, is_kept) else {
+    let Ok(mut clerk) = Recount::new(rt.alloc(), form, is_kept) else {
         return Err(Fault::Memory);
     };
     or_book(clerk.book.begin())?;

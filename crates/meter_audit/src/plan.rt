@@ -2,7 +2,7 @@
 use crate::faults::{Fault, or_memory};
 use crate::files::{open_file, rates_in, want_regular};
 use crate::folders::runs_in;
-use crate::prints::Printed;
+use crate::prints::PrintsFile;
 use crate::scripts::may_bring_bytes;
 use audit_words::{Asked, Words};
 
@@ -15,7 +15,7 @@ pub struct Plan {
     /// The rates of every run; None if each has its own.
     pub rates: Option<Vec<u8>>,
     /// The file of the prints of all runs.
-    pub printed: Option<Printed>,
+    pub printed: Option<PrintsFile>,
     /// Whether a script may have a `give` or a `scan N hex`: what runs send and release is then kept.
     pub has_bytes: bool,
 }
@@ -68,12 +68,12 @@ fn shared_rates(
 }
 
 // The file of prints, opened.
-fn open_prints(rt: &HostRuntime, file: Option<String>) -> Result<Option<Printed>, Fault> {
+fn open_prints(rt: &HostRuntime, file: Option<String>) -> Result<Option<PrintsFile>, Fault> {
     let Some(file) = file else {
         return Ok(None);
     };
     let opened = open_file(rt, file.as_str())?;
-    Ok(Some(Printed { file, opened }))
+    Ok(Some(PrintsFile { file, opened }))
 }
 
 /// What these words come to. Each file that is that of every run is opened before the first run is judged.

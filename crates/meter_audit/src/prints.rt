@@ -6,7 +6,7 @@ use memchr::memchr;
 use std::alloc::{AllocError, Global};
 use std::fs::File;
 use text_streams::put_digits;
-use trace_runs::{Imprint, Match, Taken, match_prints};
+use trace_runs::{Imprint, Match, Printed, match_prints};
 
 /// The digits of a mark.
 const DIGITS: usize = 128;
@@ -19,7 +19,7 @@ const SHOWN: usize = 600;
 
 /// A file of prints that was opened.
 #[derive(Drop)]
-pub struct Printed {
+pub struct PrintsFile {
     pub file: String,
     pub opened: File,
 }
@@ -99,8 +99,8 @@ fn open_text(
     let run = at.run.as_str();
     let line = at.line;
     let cause = match imprint.given.taken {
-        Taken::Stopped => "the run was stopped",
-        Taken::Whole | Taken::Failed => "the printer failed",
+        Printed::Stopped => "the run was stopped",
+        Printed::Whole | Printed::Failed => "the printer failed",
     };
     format!(in alloc; "prints {file} fit before {run} line {line}, where {cause}")
 }
@@ -142,12 +142,12 @@ fn text_of(
 /// Judges the prints of these runs, which have so many imprints up to each.
 pub fn judge_prints(
     rt: &HostRuntime,
-    printed: Printed,
+    printed: PrintsFile,
     names: &[String],
     ends: &[usize],
     imprints: &[Imprint],
 ) -> Result<Said, Fault> {
-    let Printed { file, opened } = printed;
+    let PrintsFile { file, opened } = printed;
     let most = most_bytes(imprints.len());
     let prints = first_bytes(rt, file.as_str(), opened, most)?;
     let found = match_prints(imprints, prints.as_slice());

@@ -7,7 +7,7 @@ use crate::files::{changed, open_of, rates_of, unusable_of, whole_run};
 use crate::judging::{Judged, Outcome, judge_over};
 use crate::plan::{Plan, is_counted, takes_output};
 use crate::verdicts::{FINDING, is_finding, is_undecided, stopped_at, verdict_text};
-use audit_clerk::{Clerk, Run, put_due};
+use audit_recount::{Recount, Run, put_due};
 use audit_words::{Asked, shown_text};
 use bench_base::numbers::DayNo;
 use bench_base::stream::IoSink;
@@ -158,7 +158,7 @@ fn tell_due(
 fn count(
     rt: &HostRuntime,
     plan: &Plan,
-    clerk: &mut Clerk,
+    clerk: &mut Recount,
     place: usize,
     run: &Run,
     stopped: Option<u32>,
@@ -194,7 +194,7 @@ fn judge_next(
     rt: &HostRuntime,
     plan: &Plan,
     auditor: &mut Auditor,
-    clerk: &mut Clerk,
+    clerk: &mut Recount,
     gathered: &mut Gathered,
     place: usize,
     name: &str,
@@ -226,7 +226,7 @@ pub fn judge_all(
     rt: &HostRuntime,
     plan: &Plan,
     auditor: &mut Auditor,
-    clerk: &mut Clerk,
+    clerk: &mut Recount,
     gathered: &mut Gathered,
 ) -> Result<u8, Fault>
     requires ready { IsReady (audit_of auditor.old) }

@@ -70,16 +70,16 @@ impl Tail {
         self.len == 0
     }
 
-    // Moves the last line to the front, if so many bytes find no room.
+    // Moves the last line to the prefix, if so many bytes find no room.
     fn make_room(&mut self, count: usize) {
         let len = self.len.min(self.kept.len());
         if count <= self.kept.len() - len {
             return;
         }
         let start = len.saturating_sub(LINE);
-        let (front, back) = self.kept.as_mut_slice().split_at_mut(start);
-        let moved = front.len().min(back.len()).min(LINE);
-        front[..moved].copy_from_slice(&back[..moved]);
+        let (prefix, back) = self.kept.as_mut_slice().split_at_mut(start);
+        let moved = prefix.len().min(back.len()).min(LINE);
+        prefix[..moved].copy_from_slice(&back[..moved]);
         self.len = moved;
     }
 

@@ -13,7 +13,7 @@ use Rattle.node_acts.specs.declared.act.Outcome.TheVariants as o
 use Rattle.node_acts.specs.declared.said.Said.{Said}
 use Rattle.node_acts.specs.Views.{Counting, View}
 use Rattle.node_acts.specs.Acts.{commit_in, commit_of, outcome_in, outcome_of, MayCome, after_call}
-use Rattle.bench_base.specs.Replies.{Told, Did, Refused, told_by}
+use Rattle.bench_base.specs.Replies.{ReplyClass, Did, Refused, class_of}
 use Rattle.node_acts.specs.Plans.{with_torn, after, after_told, Fails, IsOfNode, done_plan, view_after, view_told}
 use Rattle.node_acts.specs.Said.{tells, IsPlain, seen_plan, said_reply, said_entries}
 
@@ -24,27 +24,27 @@ module _ {S X : Type 0} (n : Counting S X) (m : Node) where
     pub entries_are : said_entries m act result ≡ after p (said_reply m result) []
     pub view : (v : View S) → view_after n (said_reply m result) made v ≡ after_call result made v
 
-  was_refused : (x : Reply) (act : Act X Reply Said) → told_by x ≡ Refused → Tells (refuse x) act None (o.Refused x)
+  was_refused : (x : Reply) (act : Act X Reply Said) → class_of x ≡ Refused → Tells (refuse x) act None (o.Refused x)
   was_refused x act is_refusal = record {
     may = inl refl;
-    entries_are = sym (ap (λ (t : Told). after_told (refuse x) t []) is_refusal);
-    view = λ v. ap (λ (t : Told). view_told n t None v) is_refusal;
+    entries_are = sym (ap (λ (t : ReplyClass). after_told (refuse x) t []) is_refusal);
+    view = λ v. ap (λ (t : ReplyClass). view_told n t None v) is_refusal;
   }
 
-  was_told : (a : Said) → told_by a.reply ≡ Did → Tells (told a.reply (tells a)) (Tell a) None (o.Done a)
+  was_told : (a : Said) → class_of a.reply ≡ Did → Tells (told a.reply (tells a)) (Tell a) None (o.Done a)
   was_told a is_done = record {
     may = inl refl;
-    entries_are = sym (append-nil (tells a)) ∙ sym (ap (λ (t : Told). after_told (told a.reply (tells a)) t []) is_done);
-    view = λ v. ap (λ (t : Told). view_told n t None v) is_done;
+    entries_are = sym (append-nil (tells a)) ∙ sym (ap (λ (t : ReplyClass). after_told (told a.reply (tells a)) t []) is_done);
+    view = λ v. ap (λ (t : ReplyClass). view_told n t None v) is_done;
   }
 
-  was_made : (worn : Bool) (c : Commit) (x : X) (s : S) (a : Said) → told_by a.reply ≡ Did
+  was_made : (worn : Bool) (c : Commit) (x : X) (s : S) (a : Said) → class_of a.reply ≡ Did
       → Tells (if worn then refuse (r.Worn m) else made a.reply c (tells a)) (Commits c x a) (if worn then None else Some (c, s)) (if worn then o.Worn else o.Done a)
   was_made true c x s a is_done = record { may = inl refl; entries_are = refl; view = λ v. refl }
   was_made false c x s a is_done = record {
     may = inl refl;
-    entries_are = sym (ap (λ (t : Told). after_told (made a.reply c (tells a)) t []) is_done);
-    view = λ v. ap (λ (t : Told). view_told n t (Some (c, s)) v) is_done;
+    entries_are = sym (ap (λ (t : ReplyClass). after_told (made a.reply c (tells a)) t []) is_done);
+    view = λ v. ap (λ (t : ReplyClass). view_told n t (Some (c, s)) v) is_done;
   }
 
   was_done : (s : S) (act : Act X Reply Said) → IsPlain act → Tells (done_plan n m (λ x. x) (λ a. a.reply) tells s act) act (commit_in n s act) (outcome_in n s act)

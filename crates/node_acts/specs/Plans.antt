@@ -9,7 +9,7 @@ use Rattle.bench_base.specs.declared.events.Reply.TheVariants as r
 use Rattle.bench_base.specs.Nodes.{node_of}
 use Rattle.bench_base.specs.Plans.{Plan, refuse, made, told}
 use Rattle.bench_base.specs.Ledger.{Ledger}
-use Rattle.bench_base.specs.Replies.{Told, Did, Refused, Armed, CameOn, WentOff, LostPower, Faulted, WasDamaged, PrinterFailed, RatesFailed, told_by}
+use Rattle.bench_base.specs.Replies.{ReplyClass, Did, Refused, Armed, CameOn, WentOff, LostPower, Faulted, WasDamaged, PrinterFailed, RatesFailed, class_of}
 use Rattle.node_acts.specs.declared.act.Act.{Act}
 use Rattle.node_acts.specs.declared.act.Act.TheVariants.{Refuse, Tell, Commits}
 use Rattle.node_acts.specs.declared.act.Outcome.{Outcome}
@@ -38,7 +38,7 @@ with_torn None m H = H
 with_torn (Some x) m H = entry.Torn m x ∷ H
 
 -- the ledger after an event of this plan, by what its reply reports
-abbrev pub after_told : Plan → Told → Ledger → Ledger
+abbrev pub after_told : Plan → ReplyClass → Ledger → Ledger
 after_told p Did H = p.after ++ with_commit p.commit H
 after_told p Refused H = p.after ++ with_commit p.commit H
 after_told p (Armed m) H = p.after ++ with_commit p.commit H
@@ -52,7 +52,7 @@ after_told p RatesFailed H = H
 
 -- the ledger after a reply to the plan: a commit that failed is open, and adds no entry; a printer that failed leaves the commit alone
 abbrev pub after : Plan → Reply → Ledger → Ledger
-after p reply H = after_told p (told_by reply) H
+after p reply H = after_told p (class_of reply) H
 
 -- == what else may come ==
 
@@ -61,7 +61,7 @@ abbrev pub MayFail : Plan → Node → Type 0
 MayFail p m = ((k : ℕ) × (p.reply ≡ r.Up m k)) ⊎ ((x : Commit) × (p.commit ≡ Some x) × (node_of x ≡ m))
 
 -- the reply reports a failure that this plan can have
-abbrev pub FailsTold : Plan → Told → Type 0
+abbrev pub FailsTold : Plan → ReplyClass → Type 0
 FailsTold p Did = ⊥
 FailsTold p Refused = ⊥
 FailsTold p (Armed m) = ⊥
@@ -75,7 +75,7 @@ FailsTold p RatesFailed = ⊥
 
 -- the reply is a failure that may come in the place of the plan's reply: of power or storage if a node starts or commits, or of the printer
 abbrev pub Fails : Plan → Reply → Type 0
-Fails p reply = FailsTold p (told_by reply)
+Fails p reply = FailsTold p (class_of reply)
 
 -- == what a call is reported as ==
 
@@ -127,7 +127,7 @@ module _ {S X : Type 0} (n : Counting S X) where
   abbrev pub MayReply : Node → View S → Plan → Reply → Type 0
   MayReply m v p reply = (reply ≡ p.reply) ⊎ (IsOtherUp m v p reply ⊎ Fails p reply)
 
-  abbrev pub view_told : Told → Option (Commit × S) → View S → View S
+  abbrev pub view_told : ReplyClass → Option (Commit × S) → View S → View S
   view_told Did (Some x) v = committed x.1 v
   view_told Did None v = v
   view_told Refused made v = v
@@ -145,4 +145,4 @@ module _ {S X : Type 0} (n : Counting S X) where
 
   -- the node after an event that got this reply, which makes this commit if it makes one
   abbrev pub view_after : Reply → Option (Commit × S) → View S → View S
-  view_after reply made v = view_told (told_by reply) made v
+  view_after reply made v = view_told (class_of reply) made v

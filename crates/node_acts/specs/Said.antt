@@ -7,7 +7,7 @@ use Rattle.bench_base.specs.declared.ledger.Entry.TheVariants as entry
 use Rattle.bench_base.specs.declared.events.Reply.{Reply}
 use Rattle.bench_base.specs.Plans.{Plan}
 use Rattle.bench_base.specs.Ledger.{Ledger}
-use Rattle.bench_base.specs.Replies.{Did, Refused, told_by}
+use Rattle.bench_base.specs.Replies.{Did, Refused, class_of}
 use Rattle.node_acts.specs.declared.act.Act.{Act}
 use Rattle.node_acts.specs.declared.act.Act.TheVariants.{Refuse, Tell, Commits}
 use Rattle.node_acts.specs.declared.act.Outcome.{Outcome}
@@ -58,9 +58,9 @@ saying refusal say (Commits c x a) = Commits c x (say a)
 
 -- it refuses, or what was asked for was done
 abbrev pub IsPlain : {X : Type 0} → Act X Reply Said → Type 0
-IsPlain (Refuse x) = told_by x ≡ Refused
-IsPlain (Tell a) = told_by a.reply ≡ Did
-IsPlain (Commits c x a) = told_by a.reply ≡ Did
+IsPlain (Refuse x) = class_of x ≡ Refused
+IsPlain (Tell a) = class_of a.reply ≡ Did
+IsPlain (Commits c x a) = class_of a.reply ≡ Did
 
 -- what the ledger plans
 abbrev pub said_plan : {X : Type 0} → Act X Reply Said → Plan

@@ -115,9 +115,9 @@ module _ {K S N C R : Type 0} (n : Ghosts K S N C R) (g : nv.Ghosts S) {F A : Ty
         (subst (λ (b : Act C F A). CommitsSome (λ made. Unit {0}) b) (sym is) tt)
 
     module _ (nested : (s : S) → g.tells → Nested (g.times s))
-        (keeps : (d : N) (s : n.Seen) (y : C) → n.IsSound d s → n.IsKept y → n.IsFrom d s y → n.counting.is_worn s y ≡ false → n.IsSound d (n.counting.after s y))
-        (counts : (d : N) (s : n.Seen) (y : C) → n.IsSound d s → n.IsKept y → n.counting.count (n.counting.after s y) ≡ n.counting.count s + 1)
-        (fresh : n.counting.is_worn (n.seen k) x ≡ false) (name : n.name k' ≡ n.name k) (kept : n.IsKept x) (size : g.size (n.storage k') ≡ g.size (n.storage k))
+        (keeps : (d : N) (s : n.Seen) (y : C) → n.IsSound d s → n.IsStorable y → n.IsFrom d s y → n.counting.is_worn s y ≡ false → n.IsSound d (n.counting.after s y))
+        (counts : (d : N) (s : n.Seen) (y : C) → n.IsSound d s → n.IsStorable y → n.counting.count (n.counting.after s y) ≡ n.counting.count s + 1)
+        (fresh : n.counting.is_worn (n.seen k) x ≡ false) (name : n.name k' ≡ n.name k) (kept : n.IsStorable x) (size : g.size (n.storage k') ≡ g.size (n.storage k))
         (time : g.tells → Elapses (g.times (n.storage k)) (g.times (n.storage k')))
         (any_moment : g.tells → (i : List ℕ) → (g.times (n.storage k')).since (g.times (n.storage k)).moment i → n.IsShown (n.seen k) i ⊎ n.IsShown (n.counting.after (n.seen k) x) i) where
       -- the record after it

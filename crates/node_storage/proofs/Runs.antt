@@ -117,7 +117,7 @@ module _ {K S N C R : Type 0} (n : Ghosts K S N C R) (g : nv.Ghosts S)
 
   -- a call that commits
   module _ (c : Commit) (x : C) (a : A) (e : Node) (on : Runs n g e) (is : act ≡ Commits c x a) (fresh : n.counting.is_worn (seen_of n d) x ≡ false)
-      (name : n.name (node_of e) ≡ n.name (node_of d)) (kept : n.IsKept x) (beside : n.Stays (node_of d) (node_of e)) (end : End)
+      (name : n.name (node_of e) ≡ n.name (node_of d)) (kept : n.IsStorable x) (beside : n.Stays (node_of d) (node_of e)) (end : End)
       (stores : Stores g (n.IsShown (seen_of n d)) (n.IsShown (n.counting.after (seen_of n d) x)) (storage_of n d) (storage_of n e) end) where
     abbrev next : n.Seen
     next = n.counting.after (seen_of n d) x
@@ -149,7 +149,7 @@ module _ {K S N C R : Type 0} (n : Ghosts K S N C R) (g : nv.Ghosts S)
         wrote = λ w. subst (λ (b : Act C F A). WroteAs b e result) (sym is) wrote;
         rests = λ none. absurd (differs (sym made_is ∙ none));
       };
-      next = λ b y o w commits fresh. subst (λ (z : C). n.IsKept z) (one b y o commits) kept;
+      next = λ b y o w commits fresh. subst (λ (z : C). n.IsStorable z) (one b y o commits) kept;
       name = name;
       beside = beside;
       size = on.size;

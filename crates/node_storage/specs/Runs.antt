@@ -32,7 +32,7 @@ module _ {K S N C R : Type 0} where
 
     -- a change that the act commits to one that has not failed is one that can be kept
     abbrev pub KeepsNext : {F A : Type 0} → Act C F A → Running K S N C R → Type 0
-    KeepsNext {F} {A} act r = (c : Commit) (x : C) (a : A) → torn_of r ≡ None → act ≡ Commits c x a → n.counting.is_worn (seen_of r) x ≡ false → n.IsKept x
+    KeepsNext {F} {A} act r = (c : Commit) (x : C) (a : A) → torn_of r ≡ None → act ≡ Commits c x a → n.counting.is_worn (seen_of r) x ≡ false → n.IsStorable x
 
     module _ (g : nv.Ghosts S) where
       -- it is on until a commit of it has failed

@@ -4,8 +4,8 @@
 
 mod node;
 mod running;
-mod seat;
+mod storage;
 
 pub use node::{Arms, Node};
 pub use running::{Running, answer};
-pub use seat::{arm, perform, start, stop};
+pub use storage::{arm, perform, start, stop};

@@ -34,7 +34,7 @@ pub trait Node: Sized {
     ghost fill: { Seen → Self.Change → Fill };
 
     /// What is true of each change that code can make.
-    ghost IsKept: { Self.Change → Type 0 };
+    ghost IsStorable: { Self.Change → Type 0 };
 
     /// The record can take the change.
     ghost IsFit: { Seen → Self.Change → Type 0 };
@@ -95,7 +95,7 @@ pub trait Node: Sized {
         requires fits { IsFit (seen self.old) change.now }
         ensures leaves { is_on self.new ≡ leaves_running result }
         ensures name { name self.new ≡ name self.old }
-        ensures kept { IsKept change.now }
+        ensures kept { IsStorable change.now }
         ensures rests { IsErrOf result StoreFail.Worn → self.new ≡ self.old }
         ensures stays { Leaves (seen self.old) (seen self.new) (Stays self.old self.new) result }
         ensures answers { Commits counting (seen self.old) (seen self.new) change.now result }
@@ -128,10 +128,10 @@ pub trait Node: Sized {
     ghost one_shown: { (d : Self.Name) (a b : Seen) (c : List ℕ) → IsSound d a → IsSound d b → IsShown a c → IsShown b c
         → a ≡ b };
 
-    ghost keeps: { (d : Self.Name) (s : Seen) (x : Self.Change) → IsSound d s → IsKept x → IsFrom d s x
+    ghost keeps: { (d : Self.Name) (s : Seen) (x : Self.Change) → IsSound d s → IsStorable x → IsFrom d s x
         → counting.is_worn s x ≡ false → IsSound d (counting.after s x) };
 
-    ghost counts: { (d : Self.Name) (s : Seen) (x : Self.Change) → IsSound d s → IsKept x
+    ghost counts: { (d : Self.Name) (s : Seen) (x : Self.Change) → IsSound d s → IsStorable x
         → counting.count (counting.after s x) ≡ counting.count s + 1 };
 
     /// Storage that shows a record of the node is not damaged.

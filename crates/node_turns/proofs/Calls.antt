@@ -12,7 +12,7 @@ use Rattle.bench_base.specs.declared.events.Reply.TheVariants as r
 use Rattle.bench_base.specs.Events.{node_for, needs_on, may_commit, calls_of, IsAt}
 use Rattle.bench_base.specs.Ledger.{Ledger}
 use Rattle.bench_base.specs.Nodes.{node_of}
-use Rattle.bench_base.specs.Replies.{Told, Did, Refused, refuses, loses_power, faults, leaves_on, told_by, is_refusal, tells_power, tells_fault, MayGet, Commits as CommitsAt}
+use Rattle.bench_base.specs.Replies.{ReplyClass, Did, Refused, refuses, loses_power, faults, leaves_on, class_of, is_refusal, tells_power, tells_fault, MayGet, Commits as CommitsAt}
 use Rattle.bench_base.specs.Plans.{Plan}
 use Rattle.nv_model.specs.declared.nv.Nv as nv
 use Rattle.nv_model.specs.declared.fuse.Fuse as fuse
@@ -66,14 +66,14 @@ pub record IsCallOf (m : Node) (e : Event) : Type 0 where
 
 -- it may be refused so
 pub record MayRefuse (m : Node) (e : Event) (x : Reply) : Type 0 where
-  pub told : told_by x ≡ Refused
+  pub told : class_of x ≡ Refused
   pub on_day : x ≢ r.NoDay
   pub not_off : x ≢ r.OffNode m
   pub gets : MayGet e x
 
 -- it may be told so
 pub record MaySay (e : Event) (a : Said) : Type 0 where
-  pub told : told_by a.reply ≡ Did
+  pub told : class_of a.reply ≡ Did
   pub gets : MayGet e a.reply
   pub adds : (made : Option Commit) → (may_commit e ≡ false → made ≡ None) → AddsDone e (brings a.reply) (in_order (tells a ++ with_commit made []))
 
@@ -208,7 +208,7 @@ module _ {X : Type 0} (m : Node) (e : Event) (of : IsCallOf m e) (act : Act X Re
   call_on_day : (x : Outcome Reply Said) → CameOf act x → said_reply m x ≢ r.NoDay
   call_on_day o.Off came is = cc
   call_on_day (o.Refused y) came is = (refuses_by m e act y told came).on_day is
-  call_on_day (o.Done a) came is = let t : Refused ≡ Did = sym (ap told_by is) ∙ (says_by m e act a told came).told in cc
+  call_on_day (o.Done a) came is = let t : Refused ≡ Did = sym (ap class_of is) ∙ (says_by m e act a told came).told in cc
   call_on_day o.Worn came is = cc
   call_on_day (o.Power c) came is = cc
   call_on_day (o.Fault c) came is = cc
@@ -224,17 +224,17 @@ module _ {X : Type 0} (m : Node) (e : Event) (of : IsCallOf m e) (act : Act X Re
 
   call_adds : (x : Outcome Reply Said) → CameOf act x → Adds e (said_reply m x) (in_order (said_entries m act x))
   call_adds o.Off came = refl
-  call_adds (o.Refused y) came = subst (λ (t : Told). AddsTold e y t (in_order [])) (sym (refuses_by m e act y told came).told) refl
-  call_adds (o.Done a) came = subst (λ (t : Told). AddsTold e a.reply t (in_order (said_entries m act (o.Done a)))) (sym (says_by m e act a told came).told) (adds_by m e act a told came)
+  call_adds (o.Refused y) came = subst (λ (t : ReplyClass). AddsTold e y t (in_order [])) (sym (refuses_by m e act y told came).told) refl
+  call_adds (o.Done a) came = subst (λ (t : ReplyClass). AddsTold e a.reply t (in_order (said_entries m act (o.Done a)))) (sym (says_by m e act a told came).told) (adds_by m e act a told came)
   call_adds o.Worn came = refl
   call_adds (o.Power c) came = inr (c, commits_by m e (λ made. made ≡ c) act told came, refl)
   call_adds (o.Fault c) came = inr (c, commits_by m e (λ made. made ≡ c) act told came, refl)
 
   -- neither a refusal nor that it was done tells of a failure
-  no_power : (x : Reply) (t : Told) → told_by x ≡ t → loses_power m t ≡ false → tells_power m x ≡ true → {P : Type 0} → P
+  no_power : (x : Reply) (t : ReplyClass) → class_of x ≡ t → loses_power m t ≡ false → tells_power m x ≡ true → {P : Type 0} → P
   no_power x t is isnt claims = no (sym (ap (loses_power m) is ∙ isnt) ∙ claims)
 
-  no_fault : (x : Reply) (t : Told) → told_by x ≡ t → faults m t ≡ false → tells_fault m x ≡ true → {P : Type 0} → P
+  no_fault : (x : Reply) (t : ReplyClass) → class_of x ≡ t → faults m t ≡ false → tells_fault m x ≡ true → {P : Type 0} → P
   no_fault x t is isnt claims = no (sym (ap (faults m) is ∙ isnt) ∙ claims)
 
   call_charged : (x : Outcome Reply Said) → CameOf act x → (was is : Meters) → Spent (cost act) was is (end_of x) → Charged m e (said_reply m x) was is
@@ -260,15 +260,15 @@ module _ {X : Type 0} (m : Node) (e : Event) (of : IsCallOf m e) (act : Act X Re
   call_off : (x : Outcome Reply Said) → CameOf act x → (was : Bool) → (x ≡ o.Off) ↔ (was ≡ false) → (said_reply m x ≡ r.OffNode m) ↔ (was ≡ false)
   call_off o.Off came was found = (λ e. found.0 refl, λ off. refl)
   call_off (o.Refused y) came was found = (λ is. absurd ((refuses_by m e act y told came).not_off is), λ off. let is = found.1 off in cc)
-  call_off (o.Done a) came was found = (λ is. let t : Refused ≡ Did = sym (ap told_by is) ∙ (says_by m e act a told came).told in cc, λ off. let is = found.1 off in cc)
+  call_off (o.Done a) came was found = (λ is. let t : Refused ≡ Did = sym (ap class_of is) ∙ (says_by m e act a told came).told in cc, λ off. let is = found.1 off in cc)
   call_off o.Worn came was found = (λ is. cc, λ off. let is = found.1 off in cc)
   call_off (o.Power c) came was found = (λ is. cc, λ off. let is = found.1 off in cc)
   call_off (o.Fault c) came was found = (λ is. cc, λ off. let is = found.1 off in cc)
 
-  call_leaves : (x : Outcome Reply Said) → CameOf act x → (was : Bool) → (was && not (has_failed x)) ≡ leaves_on (told_by (said_reply m x)) was
+  call_leaves : (x : Outcome Reply Said) → CameOf act x → (was : Bool) → (was && not (has_failed x)) ≡ leaves_on (class_of (said_reply m x)) was
   call_leaves o.Off came was = and-true was
-  call_leaves (o.Refused y) came was = and-true was ∙ sym (ap (λ (t : Told). leaves_on t was) (refuses_by m e act y told came).told)
-  call_leaves (o.Done a) came was = and-true was ∙ sym (ap (λ (t : Told). leaves_on t was) (says_by m e act a told came).told)
+  call_leaves (o.Refused y) came was = and-true was ∙ sym (ap (λ (t : ReplyClass). leaves_on t was) (refuses_by m e act y told came).told)
+  call_leaves (o.Done a) came was = and-true was ∙ sym (ap (λ (t : ReplyClass). leaves_on t was) (says_by m e act a told came).told)
   call_leaves o.Worn came was = and-true was
   call_leaves (o.Power c) came was = and-false was
   call_leaves (o.Fault c) came was = and-false was

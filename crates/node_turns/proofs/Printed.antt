@@ -7,7 +7,7 @@ use Rattle.bench_base.specs.declared.ledger.Entry.TheVariants as entry
 use Rattle.bench_base.specs.declared.events.Event.{Event}
 use Rattle.bench_base.specs.declared.events.Reply.{Reply}
 use Rattle.bench_base.specs.declared.events.Reply.TheVariants as r
-use Rattle.bench_base.specs.Replies.{Told, Did, Refused, PrinterFailed, told_by, arms, leaves_on, MayGet}
+use Rattle.bench_base.specs.Replies.{ReplyClass, Did, Refused, PrinterFailed, class_of, arms, leaves_on, MayGet}
 use Rattle.bench_base.specs.Plans.{Plan, refuse, made}
 use Rattle.nv_model.specs.declared.nv.Nv as nv
 use Rattle.nv_model.specs.declared.fuse.Fuse as fuse
@@ -64,8 +64,8 @@ print_acts (Tell b) a of = print_tells b.given b.sent ∙ ap (λ (y : Said). opt
 print_acts (Commits c x b) a of = print_more (tells b) (Some c) ∙ print_tells b.given b.sent ∙ ap (λ (y : Said). option_map (λ (p : Print). p.mark) (print_in y.given)) of
 
 -- of a plan whose reply tells that it was done
-print_planned : (p : Plan) (t : Told) → t ≡ Did → print_of (after_told p t []) ≡ print_of p.after
-print_planned p t is = ap (λ (u : Told). print_of (after_told p u [])) is ∙ print_more p.after p.commit
+print_planned : (p : Plan) (t : ReplyClass) → t ≡ Did → print_of (after_told p t []) ≡ print_of p.after
+print_planned p t is = ap (λ (u : ReplyClass). print_of (after_told p u [])) is ∙ print_more p.after p.commit
 
 -- == in its place ==
 
@@ -92,7 +92,7 @@ module _ {K S N C R X : Type 0} (n : Ghosts K S N C R) (g : nv.Ghosts S) (f : fu
 
     -- it was not refused
     not_off : {P : Type 0} → a.reply ≡ r.OffNode m → P
-    not_off is = did_refused (sym said.told ∙ ap told_by is)
+    not_off is = did_refused (sym said.told ∙ ap class_of is)
 
     -- the plan prints the mark that is said
     plan_prints : (v : View n.Seen) → Stands n g d v s → g.tells → print_of (plan_by n kind m d today v (Call call)).after ≡ option_map (λ (p : Print). p.mark) (print_in a.given)
@@ -100,7 +100,7 @@ module _ {K S N C R X : Type 0} (n : Ghosts K S N C R) (g : nv.Ghosts S) (f : fu
         let may = did.comes d v st tells' in
         let it : Tells n.counting m (seen_plan n.counting m v (by v.state)) (by v.state) (commit_of n.counting v (by v.state)) (o.Done a) =
         tells_call n.counting m v (by v.state) (own_by m e (by v.state) (told v.state)) (plain_by m e (by v.state) (told v.state)) (o.Done a) may in
-        ap (λ (p : Plan). print_of p.after) (plan_is v) ∙ sym (print_planned (seen_plan n.counting m v (by v.state)) (told_by a.reply) said.told) ∙ ap print_of (sym it.entries_are)
+        ap (λ (p : Plan). print_of p.after) (plan_is v) ∙ sym (print_planned (seen_plan n.counting m v (by v.state)) (class_of a.reply) said.told) ∙ ap print_of (sym it.entries_are)
         ∙ print_acts (by v.state) a (tells_same v st tells' may)
       where
         tells_same : (v : View n.Seen) → Stands n g d v s → g.tells → MayCome n.counting v (by v.state) (o.Done a) → TellsOf a (by v.state)
@@ -136,7 +136,7 @@ module _ {K S N C R X : Type 0} (n : Ghosts K S N C R) (g : nv.Ghosts S) (f : fu
               entries = ap (λ (c : Option Commit). in_order (with_commit c []))
                   (ap (λ (x : n.Seen). planned_commit (by x)) ((st.runs (done_on v.on _ a done)).seen tells') ∙ sym (made_commit v.on (by v.state) v done) ∙ sym (ap (λ (q : Plan). q.commit) (plan_is v)));
               stands = subst (λ (w : View n.Seen). Stands n g d w t)
-                  (ap (λ (u : Told). view_told n.counting u (kind.commit d today v call) v) said.told ∙ sym (same_view (kind.commit d today v call) v)) moved.stands;
+                  (ap (λ (u : ReplyClass). view_told n.counting u (kind.commit d today v call) v) said.told ∙ sym (same_view (kind.commit d today v call) v)) moved.stands;
               any_moment = moved.any_moment;
             };
         keeps = base.keeps;
@@ -158,7 +158,7 @@ module _ {K S N C R X : Type 0} (n : Ghosts K S N C R) (g : nv.Ghosts S) (f : fu
         switches = record {
           off = λ on. (λ is. cc, λ is. not_off ((base.switches.off on).1 is));
           already = λ on. absurd (of.no_switch on);
-          leaves = base.switches.leaves ∙ ap (λ (u : Told). leaves_on u (n.is_on s)) said.told;
+          leaves = base.switches.leaves ∙ ap (λ (u : ReplyClass). leaves_on u (n.is_on s)) said.told;
         };
         armed = base.armed;
       }
@@ -166,12 +166,12 @@ module _ {K S N C R X : Type 0} (n : Ghosts K S N C R) (g : nv.Ghosts S) (f : fu
           answers : (v : View n.Seen) → MayReply n.counting m v (kind.plan d today v call) a.reply → (kind.plan d today v call).reply ≡ r.Printed p.job
           answers v (inl is) = sym is ∙ reply_is
           answers v (inr (inl up)) = let wrong : r.Printed p.job ≡ r.Up m _ = sym reply_is ∙ up.2 in cc
-          answers v (inr (inr failing)) = absurd (subst (λ (u : Told). FailsTold (kind.plan d today v call) u) said.told failing)
+          answers v (inr (inr failing)) = absurd (subst (λ (u : ReplyClass). FailsTold (kind.plan d today v call) u) said.told failing)
 
   -- a call that was not done, or that gives nothing to the printer, is told so
   not_printed : (x : Outcome Reply Said) → Called n g by s t x → to_print x ≡ None → (job : ℕ) → said_reply m x ≡ r.Printed job → ⊥
   not_printed o.Off did none job is = cc
-  not_printed (o.Refused y) did none job is = let t : Did ≡ Refused = sym (ap told_by is) ∙ (refuses_by m e act y (told (n.seen s)) did.does.came).told in cc
+  not_printed (o.Refused y) did none job is = let t : Did ≡ Refused = sym (ap class_of is) ∙ (refuses_by m e act y (told (n.seen s)) did.does.came).told in cc
   not_printed (o.Done a) did none job is = let p = (so (n.seen s) a did.does.came).says job is in let wrong : None ≡ Some p.0 = sym none ∙ p.1 in cc
   not_printed o.Worn did none job is = cc
   not_printed (o.Power c) did none job is = cc
@@ -179,8 +179,8 @@ module _ {K S N C R X : Type 0} (n : Ghosts K S N C R) (g : nv.Ghosts S) (f : fu
 
   not_failed : (x : Outcome Reply Said) → Called n g by s t x → (job : ℕ) → said_reply m x ≡ r.PrinterFault job → ⊥
   not_failed o.Off did job is = cc
-  not_failed (o.Refused y) did job is = let t : PrinterFailed job ≡ Refused = sym (ap told_by is) ∙ (refuses_by m e act y (told (n.seen s)) did.does.came).told in cc
-  not_failed (o.Done a) did job is = let t : PrinterFailed job ≡ Did = sym (ap told_by is) ∙ (said a did).told in cc
+  not_failed (o.Refused y) did job is = let t : PrinterFailed job ≡ Refused = sym (ap class_of is) ∙ (refuses_by m e act y (told (n.seen s)) did.does.came).told in cc
+  not_failed (o.Done a) did job is = let t : PrinterFailed job ≡ Did = sym (ap class_of is) ∙ (said a did).told in cc
   not_failed o.Worn did job is = cc
   not_failed (o.Power c) did job is = cc
   not_failed (o.Fault c) did job is = cc

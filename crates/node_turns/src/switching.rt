@@ -10,7 +10,7 @@ use bench_base::events::Reply;
 use bench_base::ledger::Entry;
 use bench_base::words::Node as NodeNo;
 use node_acts::Started;
-use node_storage as seat;
+use node_storage as storage;
 use node_storage::{Arms, Node};
 
 fn started<T: Tell>(node: &NodeNo, started: Started) -> T
@@ -39,7 +39,7 @@ fn started<T: Tell>(node: &NodeNo, started: Started) -> T
 pub fn start<T: Tell, K: Node>(place: &mut K, number: K::Name, node: &NodeNo) -> T
     ensures did { (x : Started) × StartDoes K.Node K.Storage.Nv number place.old place.new x × T.IsOf result (turns.start_turn node.now x) }
 {
-    let came = seat::start(place, number);
+    let came = storage::start(place, number);
     started(node, came)
 }
 
@@ -47,7 +47,7 @@ pub fn start<T: Tell, K: Node>(place: &mut K, number: K::Name, node: &NodeNo) ->
 pub fn stop<T: Tell, K: Node>(place: &mut K, node: &NodeNo) -> T
     ensures did { (was : Bool) × StopDoes K.Node K.Storage.Nv place.old place.new was × T.IsOf result (turns.stop_turn node.now was) }
 {
-    if seat::stop(place) {
+    if storage::stop(place) {
         T::one(Reply::Down(*node), Entry::Down(*node))
     } else {
         T::silent(Reply::OffNode(*node))
@@ -58,6 +58,6 @@ pub fn stop<T: Tell, K: Node>(place: &mut K, node: &NodeNo) -> T
 pub fn cut<T: Tell, K: Arms>(place: &mut K, node: &NodeNo, calls: u32, keep: u32, byte: u8) -> T
     ensures did { ArmDoes K.Node K.Storage.Nv K.fuse calls keep byte place.old place.new × T.IsOf result (turns.turn_of (Reply.CutSet node.now) []) }
 {
-    seat::arm(place, calls, keep, byte);
+    storage::arm(place, calls, keep, byte);
     T::silent(Reply::CutSet(*node))
 }

@@ -8,11 +8,11 @@ use Rattle.nv_store.specs.Scans.{IsMixed}
 use Rattle.nv_store.specs.Store.{cell_shown}
 use Rattle.psd_state.specs.State.{State}
 use Rattle.psd_state.specs.Payload.{ReadsAs}
-use Rattle.psd_device.specs.Shown.{IsShown, IsKept}
+use Rattle.psd_device.specs.Shown.{IsShown, IsStorable}
 
 -- a record of this device that can be kept
 pub record IsOwn (device : ℕ) (s : State) : Type 0 where
-  pub kept : IsKept s
+  pub kept : IsStorable s
   pub number : s.device ≡ device
 
 -- an image that shows some number of commits, and some record of this device if there is one

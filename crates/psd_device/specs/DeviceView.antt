@@ -15,7 +15,7 @@ use Rattle.psd_state.specs.Acts.{DeviceAct, make_act, debit_act, ask_act, take_a
 use Rattle.psd_state.specs.declared.acts.Franked.{Franked}
 use Rattle.psd_state.specs.declared.acts.Taken.{Taken}
 use Rattle.psd_state.specs.Seen.{Seen, counting}
-use Rattle.psd_device.specs.Shown.{ShowsSeen, OnlyShown, IsKept, fill_of}
+use Rattle.psd_device.specs.Shown.{ShowsSeen, OnlyShown, IsStorable, fill_of}
 use Rattle.psd_device.specs.Sound.{IsSound, IsCurrent}
 use Rattle.psd_device.specs.NodeView.{storage_in, seen_in, number_in, wear_in, SameWear}
 use Rattle.psd_device.specs.declared.device.Device.{Device}
@@ -72,8 +72,8 @@ take_of d bytes today = take_act todays_rules (number_of d) bytes today (seen_of
 -- What a call of this act did, answered and left. The record is one that can be kept, and so is the one after a commit.
 pub record Performs {N A : Type 0} {g : Ghosts N} (act : DeviceAct A) (old new : Device N g) (result : DeviceResult A) : Type 0 where
   pub performed : Performed g counting fill_of ShowsSeen (λ r. storage_in r.node) (λ r. seen_in r.node) (λ r. r.torn) act old.running new.running result
-  pub next : torn_of old ≡ None → IfSome (commit_in counting (seen_of old) act) (λ x. IfSome x.1.state IsKept)
+  pub next : torn_of old ≡ None → IfSome (commit_in counting (seen_of old) act) (λ x. IfSome x.1.state IsStorable)
   pub number : number_of new ≡ number_of old
-  pub kept : IfSome (seen_of new).state IsKept
+  pub kept : IfSome (seen_of new).state IsStorable
   pub size : g.size (storage_of new) ≡ DEVICE_BYTES
   pub wear : SameWear (wear_of old) (wear_of new)

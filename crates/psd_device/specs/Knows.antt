@@ -11,7 +11,7 @@ use Rattle.nv_store.specs.Store.{one_held, cell_shown, Shows}
 use Rattle.nv_store.specs.Knows.{holds_shows, none_held, some_held}
 use Rattle.psd_state.specs.State.{State}
 use Rattle.psd_state.proofs.Parted.{one_reading}
-use Rattle.psd_device.specs.Shown.{IsHeld, IsShown, IsKept, ShowsSeen, OnlyShown}
+use Rattle.psd_device.specs.Shown.{IsHeld, IsShown, IsStorable, ShowsSeen, OnlyShown}
 use Rattle.psd_device.specs.Sound.{IsCurrent}
 use Rattle.nv_ring.specs.Turns.{slot_after, start_of}
 use Rattle.psd_device.specs.NodeView.{storage_in, seen_in, is_on}
@@ -99,8 +99,8 @@ module _ {N : Type 0} {g : Ghosts N} (k : DeviceNode N g) where
   pub size : is_on k ≡ true → g.size (storage_in k) ≡ DEVICE_BYTES
   size on = k.room on
 
-  pub kept : IfSome (seen_in k).state IsKept
-  kept = if_some IsKept k.state k.kept
+  pub kept : IfSome (seen_in k).state IsStorable
+  kept = if_some IsStorable k.state k.kept
 
   -- a device has no commits if and only if it was never made
   pub blank : ((seen_in k).count ≡ 0) ↔ ((seen_in k).state ≡ None)

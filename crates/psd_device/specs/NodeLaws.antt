@@ -6,7 +6,7 @@ use Rattle.nv_model.specs.declared.nv.Nv.{Ghosts}
 use Rattle.nv_store.specs.Slot.{slots_at}
 use Rattle.psd_state.specs.State.{State}
 use Rattle.psd_state.specs.Seen.{Seen, counting}
-use Rattle.psd_device.specs.Shown.{IsShown, IsKept}
+use Rattle.psd_device.specs.Shown.{IsShown, IsStorable}
 use Rattle.psd_device.specs.Boots.{IsDamaged, ShowsOwn}
 use Rattle.psd_device.specs.Knows as knows
 use Rattle.psd_device.specs.Sound.{IsSound}
@@ -24,7 +24,7 @@ one_shown d a b c own own' shown shown' =
     let same = knows.one_shown a.count b.count a.state b.state c own.blank own'.blank shown shown' in
     seen_same a b same.0 same.1
 
-pub keeps : (d : ℕ) (s : Seen) (x : State) → IsSound d s → IsKept x → x.device ≡ d → counting.is_worn s x ≡ false → IsSound d (counting.after s x)
+pub keeps : (d : ℕ) (s : Seen) (x : State) → IsSound d s → IsStorable x → x.device ≡ d → counting.is_worn s x ≡ false → IsSound d (counting.after s x)
 keeps d s x sound kept number fresh = record {
   few = few_more s.count sound.few fresh;
   blank = (λ none. absurd (no_next s.count none), λ none. cc);

@@ -34,6 +34,6 @@ pub record OnlyShown (s : Seen) (now : Times) (content : List ℕ) : Type 0 wher
   pub shows : ShowsSeen s content
 
 -- the record can be kept: it meets its conditions and its numbers fit their fields
-pub record IsKept (s : State) : Type 0 where
+pub record IsStorable (s : State) : Type 0 where
   pub holds : state.Holds s
   pub ranges : Ranges s

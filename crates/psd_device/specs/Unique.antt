@@ -12,7 +12,7 @@ use Rattle.nv_store.specs.Slot.{Held}
 use Rattle.psd_state.specs.State.{State, Holds, IsAmount, PendingOk, MarkOk}
 use Rattle.psd_state.specs.Payload.{ReadsAs, Ranges, IsOld, bytes_of, spelled}
 use Rattle.psd_state.proofs.Parted.{spells_old, spells_new, byte_old, byte_new}
-use Rattle.psd_device.specs.Shown.{IsHeld, IsKept}
+use Rattle.psd_device.specs.Shown.{IsHeld, IsStorable}
 
 IsNumber-prop : (s : Size) (n : ℕ) → IsProp (IsNumber s n)
 IsNumber-prop One n = hlevel props
@@ -42,11 +42,11 @@ MarkOk-prop : (d : ℕ) (s : Sums) (o : Option Mark) → IsProp (MarkOk d s o)
 MarkOk-prop d s None = hlevel props
 MarkOk-prop d s (Some k) = hlevel (props, Fit-prop)
 
-pub IsKept-prop : (s : State) → IsProp (IsKept s)
-IsKept-prop s = hlevel (props, Fit-prop, PendingOk-prop, MarkOk-prop)
+pub IsStorable-prop : (s : State) → IsProp (IsStorable s)
+IsStorable-prop s = hlevel (props, Fit-prop, PendingOk-prop, MarkOk-prop)
 
-pub each_kept_prop : (o : Option State) → IsProp ((s : State) → o ≡ Some s → IsKept s)
-each_kept_prop o = hlevel (props, IsKept-prop)
+pub each_kept_prop : (o : Option State) → IsProp ((s : State) → o ≡ Some s → IsStorable s)
+each_kept_prop o = hlevel (props, IsStorable-prop)
 
 -- a payload is spelled in one version
 one_version : (payload : List ℕ) (s : State) → Holds s → Ranges s → bytes_of s ≡ payload → IsOld s → spelled 1 s ≡ payload → ⊥

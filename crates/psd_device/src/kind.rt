@@ -2,7 +2,7 @@
 ghost use Rattle.std.specs.Prelude.{◌≡◌, refl};
 ghost use Rattle.bench_base.specs.declared.sizes.TheConstants.{DEVICE_BYTES};
 ghost use Rattle.psd_state.specs.Seen as seen_by;
-ghost use Rattle.psd_device.specs.Shown.{IsKept, ShowsSeen, fill_of};
+ghost use Rattle.psd_device.specs.Shown.{IsStorable, ShowsSeen, fill_of};
 ghost use Rattle.psd_device.specs.Boots.{IsDamaged};
 ghost use Rattle.psd_device.specs.Sound as sound_by;
 ghost use Rattle.psd_device.specs.NodeView as node_view;
@@ -34,7 +34,7 @@ impl<M: Nv> Node for DeviceNode<M> {
 
     ghost fill = { λ s x. fill_of s x };
 
-    ghost IsKept = { λ x. IsKept x };
+    ghost IsStorable = { λ x. IsStorable x };
 
     ghost IsFit = { λ s x. Unit {0} };
 

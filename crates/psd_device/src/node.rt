@@ -8,7 +8,7 @@ ghost use Rattle.nv_ring.specs.Turns.{IsWearOf};
 ghost use Rattle.node_storage.specs.Does.{Reads, Commits, Stores, Writes};
 ghost use Rattle.node_storage.specs.Ends.{begins, end_of_commit, leaves_running};
 ghost use Rattle.psd_state.specs.Seen.{counting};
-ghost use Rattle.psd_device.specs.Shown.{IsHeld, IsKept, ShowsSeen, fill_of};
+ghost use Rattle.psd_device.specs.Shown.{IsHeld, IsStorable, ShowsSeen, fill_of};
 ghost use Rattle.psd_device.specs.Unique.{each_kept_prop, IsHeld-prop};
 
 use bench_base::numbers::DevNo;
@@ -37,7 +37,7 @@ pub struct DeviceNode<N: Nv> {
     ghost inside: { 0 < head.count → head.place < SLOTS },
     ghost wears: { IsWearOf wear head },
     ghost written: { IsHeld head.count state (one_held head.count payload) } by { IsHeld-prop head.count state (one_held head.count payload) },
-    ghost kept: { ForSome state IsKept } by { each_kept_prop state },
+    ghost kept: { ForSome state IsStorable } by { each_kept_prop state },
 }
 
 impl<N: Nv> DeviceNode<N> {
@@ -104,7 +104,7 @@ impl<N: Nv> DeviceNode<N> {
         requires on { is_on self.old ≡ true }
         ensures leaves { is_on self.new ≡ leaves_running result }
         ensures number { number_in self.new ≡ number_in self.old }
-        ensures kept { IsKept next.now }
+        ensures kept { IsStorable next.now }
         ensures rests { IsErrOf result StoreFail.Worn → self.new ≡ self.old }
         ensures stays { OnErr result (seen_in self.new ≡ seen_in self.old) }
         ensures answers { Commits counting (seen_in self.old) (seen_in self.new) next.now result }

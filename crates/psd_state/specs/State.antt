@@ -59,7 +59,7 @@ pub record IsPending (d n : ℕ) (p : Phase) (s : Sums) (q : Request) : Type 0 w
   pub amount : IsAmount q.kind q.version q.amount s
 
 -- a mark of the device's last piece
-pub record IsKept (d : ℕ) (s : Sums) (k : Mark) : Type 0 where
+pub record IsLastMark (d : ℕ) (s : Sums) (k : Mark) : Type 0 where
   pub whole : marks.IsWhole k
   pub device : k.device ≡ d
   pub piece : k.piece ≡ s.pieces
@@ -73,7 +73,7 @@ PendingOk device number phase s (Some q) = IsPending device number phase s q
 -- what holds of the kept mark: there is one if and only if there are pieces
 abbrev pub MarkOk : ℕ → Sums → Option Mark → Type 0
 MarkOk device s None = s.pieces ≡ 0
-MarkOk device s (Some k) = (0 < s.pieces) × IsKept device s k
+MarkOk device s (Some k) = (0 < s.pieces) × IsLastMark device s k
 
 -- what holds of each record
 pub record Holds (s : State) : Type 0 where

@@ -31,7 +31,7 @@ impl<N: Nv, R: Rows> Node for RowNode<N, R> {
 
     ghost fill = { λ s x. tables.fill_of R.table R.Memory.size s x };
 
-    ghost IsKept = { λ x. R.table.HasCell x };
+    ghost IsStorable = { λ x. R.table.HasCell x };
 
     ghost IsFit = { λ s x. R.table.IsFit s x };
 

@@ -1,2 +1,2 @@
 -- Promised: public contracts name these.
-pub mod Deeds
+pub mod Trace

@@ -11,7 +11,7 @@ use Rattle.bench_base.specs.declared.ledger.Entry.TheVariants as e
 use Rattle.bench_base.specs.Nodes.{same_node}
 use Rattle.bench_base.specs.Plans.{Plan}
 use Rattle.bench_base.specs.Ledger.{Ledger, IsReleased, count_of, torn_of, at_up, counted}
-use Rattle.bench_base.specs.Replies.{Told, Did, Refused, Armed, CameOn, WentOff, LostPower, Faulted, WasDamaged, PrinterFailed, RatesFailed}
+use Rattle.bench_base.specs.Replies.{ReplyClass, Did, Refused, Armed, CameOn, WentOff, LostPower, Faulted, WasDamaged, PrinterFailed, RatesFailed}
 use Rattle.bench_base.specs.Scans.{accepted}
 use Rattle.bench_base.specs.Rows.{first_of}
 use Rattle.bench_base.proofs.Facts.{kept_first, some_none}
@@ -33,7 +33,7 @@ module _ (P : Ledger → Type 0) (entry : (k : Entry) (H : Ledger) → P H → P
   torn None m H h = h
   torn (Some c) m H h = entry (e.Torn m c) H h
 
-  pub kept_told : (p : Plan) (t : Told) (H : Ledger) → P H → P (after_told p t H)
+  pub kept_told : (p : Plan) (t : ReplyClass) (H : Ledger) → P H → P (after_told p t H)
   kept_told p Did H h = added p.after _ (committed p.commit H h)
   kept_told p Refused H h = added p.after _ (committed p.commit H h)
   kept_told p (Armed m) H h = added p.after _ (committed p.commit H h)
@@ -65,7 +65,7 @@ accepted_more d p n (Accepted f q scan) C is = kept_first ((f == d) && (q == p))
 accepted_more d p n _ C is = is
 
 -- the first acceptance of a piece stays
-pub accepted_kept : (d p n : ℕ) (plan : Plan) (t : Told) (H : Ledger) → accepted d p (counted H) ≡ Some n → accepted d p (counted (after_told plan t H)) ≡ Some n
+pub accepted_kept : (d p n : ℕ) (plan : Plan) (t : ReplyClass) (H : Ledger) → accepted d p (counted H) ≡ Some n → accepted d p (counted (after_told plan t H)) ≡ Some n
 accepted_kept d p n plan t H is = kept_told (λ K. accepted d p (counted K) ≡ Some n) (counted_kept (λ C. accepted d p C ≡ Some n) (accepted_more d p n)) plan t H is
 
 pub accepted_entry : (d p n : ℕ) (k : Entry) (H : Ledger) → accepted d p (counted H) ≡ Some n → accepted d p (counted (k ∷ H)) ≡ Some n
@@ -93,7 +93,7 @@ pub released_entry : (x : List ℕ) (k : Entry) (H : Ledger) → IsReleased x H 
 released_entry x (e.Released d p y) H h = inr h
 released_entry x _ H h = h
 
-pub released_kept : (x : List ℕ) (plan : Plan) (t : Told) (H : Ledger) → IsReleased x H → IsReleased x (after_told plan t H)
+pub released_kept : (x : List ℕ) (plan : Plan) (t : ReplyClass) (H : Ledger) → IsReleased x H → IsReleased x (after_told plan t H)
 released_kept x plan t H h = kept_told (λ K. IsReleased x K) (released_entry x) plan t H h
 
 -- == each acceptance ==
@@ -184,7 +184,7 @@ module _ (P : ℕ → ℕ → ℕ → Type 0) where
   torn_each (Some c) m H brings all = entry_each (e.Torn m c) H brings all
 
   -- whatever the event is reported as
-  pub told_each : (p : Plan) (t : Told) (H : Ledger) → PlanBrings p → Each H → Each (after_told p t H)
+  pub told_each : (p : Plan) (t : ReplyClass) (H : Ledger) → PlanBrings p → Each H → Each (after_told p t H)
   told_each p Did H brings all = added_each p.after _ brings.1 (commit_each p.commit H brings.0 all)
   told_each p Refused H brings all = added_each p.after _ brings.1 (commit_each p.commit H brings.0 all)
   told_each p (Armed m) H brings all = added_each p.after _ brings.1 (commit_each p.commit H brings.0 all)

@@ -20,21 +20,21 @@ at_place n place ws is inside begin not = record {
   not_with = λ there more. not (omega (arith, is, there)) (subst (λ (m : ℕ). BeginAnEvent (take m ws)) is more);
 }
 
-begin_first : (k : Keyword) (front : List (List ℕ)) → AreInPlace (first_form k) front → BeginAnEvent (keyword_word k ∷ front)
-begin_first k front h =
-    let more = completed (first_form k) front h in
-    let event = made_first k (front ++ more.0) more.1 in
+begin_first : (k : Keyword) (prefix : List (List ℕ)) → AreInPlace (first_form k) prefix → BeginAnEvent (keyword_word k ∷ prefix)
+begin_first k prefix h =
+    let more = completed (first_form k) prefix h in
+    let event = made_first k (prefix ++ more.0) more.1 in
     (event.0, more.0, event.1, event.2)
 
-begin_second : (k : Keyword) (front : List (List ℕ)) → AreInPlace (second_form k) front → BeginAnEvent (keyword_word k ∷ front)
-begin_second k front h =
-    let more = completed (second_form k) front h in
-    let event = made_second k (front ++ more.0) more.1 in
+begin_second : (k : Keyword) (prefix : List (List ℕ)) → AreInPlace (second_form k) prefix → BeginAnEvent (keyword_word k ∷ prefix)
+begin_second k prefix h =
+    let more = completed (second_form k) prefix h in
+    let event = made_second k (prefix ++ more.0) more.1 in
     (event.0, more.0, event.1, event.2)
 
-begin_none : (k : Keyword) (front : List (List ℕ)) → (AreInPlace (first_form k) front → ⊥) → (AreInPlace (second_form k) front → ⊥)
-    → BeginAnEvent (keyword_word k ∷ front) → ⊥
-begin_none k front n m b = none_begins front b.1 k n m b.0 b.2 b.3
+begin_none : (k : Keyword) (prefix : List (List ℕ)) → (AreInPlace (first_form k) prefix → ⊥) → (AreInPlace (second_form k) prefix → ⊥)
+    → BeginAnEvent (keyword_word k ∷ prefix) → ⊥
+begin_none k prefix n m b = none_begins prefix b.1 k n m b.0 b.2 b.3
 
 -- behind a keyword, where one form takes so many words and the other no more
 pub wrong_behind : (k : Keyword) (ws : List (List ℕ)) (first second most place : ℕ) → IsTaken (first_form k) ws first → IsTaken (second_form k) ws second

@@ -15,7 +15,7 @@ filled [] = ([], refl)
 filled (s ∷ form) = let word = sample s in let more = filled form in (word.0 ∷ more.0, (word.0, more.0, refl, word.1, more.1))
 
 -- words at the first places go on to fit
-pub completed : (form : List Slot) (front : List (List ℕ)) → AreInPlace form front → (rest : List (List ℕ)) × Fits form (front ++ rest)
+pub completed : (form : List Slot) (prefix : List (List ℕ)) → AreInPlace form prefix → (rest : List (List ℕ)) × Fits form (prefix ++ rest)
 completed form [] h = filled form
 completed [] (w ∷ ws) h = absurd h
 completed (s ∷ form) (w ∷ ws) h = let more = completed form ws h.1 in (more.0, (w, ws ++ more.0, refl, h.0, more.1))
@@ -27,12 +27,12 @@ same_tail : (v w : List ℕ) (vs ws : List (List ℕ)) → v ∷ vs ≡ w ∷ ws
 same_tail v w vs ws e = cc
 
 -- the first of words that fit stand at the first places
-pub front_of : (form : List Slot) (front rest : List (List ℕ)) → Fits form (front ++ rest) → AreInPlace form front
-front_of form [] rest h = tt
-front_of [] (w ∷ ws) rest h = absurd (cc h)
-front_of (s ∷ form) (w ∷ ws) rest h = (
+pub prefix_of : (form : List Slot) (prefix rest : List (List ℕ)) → Fits form (prefix ++ rest) → AreInPlace form prefix
+prefix_of form [] rest h = tt
+prefix_of [] (w ∷ ws) rest h = absurd (cc h)
+prefix_of (s ∷ form) (w ∷ ws) rest h = (
   subst (λ (v : List ℕ). Takes s v) (sym (same_head w h.0 (ws ++ rest) h.1 h.2)) h.3,
-  front_of form ws rest (subst (λ (vs : List (List ℕ)). Fits form vs) (sym (same_tail w h.0 (ws ++ rest) h.1 h.2)) h.4),
+  prefix_of form ws rest (subst (λ (vs : List (List ℕ)). Fits form vs) (sym (same_tail w h.0 (ws ++ rest) h.1 h.2)) h.4),
 )
 
 -- fewer words stand there too

@@ -11,27 +11,27 @@ use Rattle.script_check.specs.Forms.{first_form, second_form, AreInPlace}
 use Rattle.script_text.specs.Keywords.{keyword_word}
 use Rattle.script_text.specs.declared.keyword.Keyword.{Keyword}
 use Rattle.script_text.specs.declared.keyword.Keyword.TheVariants as kw
-use Rattle.script_check.proofs.InPlace.{Fits, front_of}
+use Rattle.script_check.proofs.InPlace.{Fits, prefix_of}
 
 behind : (v w : List ℕ) (vs ws : List (List ℕ)) → v ∷ vs ≡ w ∷ ws → vs ≡ ws
 behind v w vs ws e = cc
 
-module _ (front rest : List (List ℕ)) where
+module _ (prefix rest : List (List ℕ)) where
   -- they do not stand at the first places behind this keyword, in one form or the other
   abbrev NotFirst : Keyword → Type 0
-  NotFirst k = AreInPlace (first_form k) front → ⊥
+  NotFirst k = AreInPlace (first_form k) prefix → ⊥
 
   abbrev NotSecond : Keyword → Type 0
-  NotSecond k = AreInPlace (second_form k) front → ⊥
+  NotSecond k = AreInPlace (second_form k) prefix → ⊥
 
   abbrev ws : List (List ℕ)
-  ws = front ++ rest
+  ws = prefix ++ rest
 
   first : (k : Keyword) → NotFirst k → Fits (first_form k) ws → ⊥
-  first k not h = not (front_of (first_form k) front rest h)
+  first k not h = not (prefix_of (first_form k) prefix rest h)
 
   second : (k : Keyword) → NotSecond k → Fits (second_form k) ws → ⊥
-  second k not h = not (front_of (second_form k) front rest h)
+  second k not h = not (prefix_of (second_form k) prefix rest h)
 
   no_ask : NotFirst kw.Ask → NotSecond kw.Ask → AreNoWords (codes "ask" ∷ ws)
   no_ask not not_plain = no_event kw.Ask ws (λ d kind c a whole are. by_kind d kind c a whole.0 whole.1 (behind _ _ _ _ are))

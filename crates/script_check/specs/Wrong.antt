@@ -6,7 +6,7 @@ use Rattle.script_text.specs.Grammar.{AreWordsOf}
 
 -- some event begins with these words
 abbrev pub BeginAnEvent : List (List ℕ) → Type 0
-BeginAnEvent front = (e : Event) × (rest : List (List ℕ)) × IsWholeEvent e × AreWordsOf e (front ++ rest)
+BeginAnEvent prefix = (e : Event) × (rest : List (List ℕ)) × IsWholeEvent e × AreWordsOf e (prefix ++ rest)
 
 -- The words before this place, counted from 1, begin some event, and with the word there they begin none; or the line ends before it.
 pub record IsFirstWrong (place : ℕ) (ws : List (List ℕ)) : Type 0 where

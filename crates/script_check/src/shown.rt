@@ -72,7 +72,7 @@ fn show_bytes<W: fmt::Write>(bytes: &[u8], f: &mut fmt::Formatter<W>) -> fmt::Re
 }
 
 // The bytes of a word that are shown.
-fn front_of(word: &[u8]) -> &[u8]
+fn prefix_of(word: &[u8]) -> &[u8]
     ensures { result.now ≡ take 40 word.now }
 {
     if word.len() < MOST {
@@ -94,7 +94,7 @@ impl<'a> fmt::Display for Shown<'a> {
 
     fn fmt<W: fmt::Write>(&self, f: &mut fmt::Formatter<W>) -> fmt::Result {
         f.write_str("`")?;
-        show_bytes(front_of(self.0), f)?;
+        show_bytes(prefix_of(self.0), f)?;
         f.write_str(more_of(self.0))?;
         f.write_str("`")
     }

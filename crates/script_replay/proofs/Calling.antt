@@ -3,7 +3,7 @@ use Rattle.std.proofs.Common.{◌≡◌, ℕ, List, [], Option, Some, sym, ◌�
 use Rattle.script_text.specs.declared.program.Words.{Words}
 use Rattle.script_text.specs.declared.program.Words.TheVariants.{Replay, Generate}
 use Rattle.script_text.specs.Programs.{program_words, AreInRange}
-use Rattle.line_extensions.specs.Deeds.{Done, done_in}
+use Rattle.line_extensions.specs.Trace.{StepRecord, done_in}
 use Rattle.script_replay.specs.Generated.{Generated}
 use Rattle.line_runs.specs.Runs.{Replayed}
 use Rattle.line_extensions.specs.Scripts.{script_lines}
@@ -16,8 +16,8 @@ use Rattle.line_runs.specs.declared.status.SideStatus.TheVariants.{Run}
 pub apart : (seed count : ℕ) → program_words Replay ≡ program_words (Generate seed count) → ⊥
 apart seed count is = cc
 
-module _ (outcome : Status) (given : List (List ℕ)) (WasDone : List Done → Type 0) (before now : Streams) where
-  pub ran_replay : given ≡ program_words Replay → Replayed script_lines (Run outcome) (λ deeds. WasDone (done_in deeds)) before.left now.left before.taken now.taken → Ran outcome given WasDone before now
+module _ (outcome : Status) (given : List (List ℕ)) (WasDone : List StepRecord → Type 0) (before now : Streams) where
+  pub ran_replay : given ≡ program_words Replay → Replayed script_lines (Run outcome) (λ trace. WasDone (done_in trace)) before.left now.left before.taken now.taken → Ran outcome given WasDone before now
   ran_replay is r = record {
     replays = λ same. r;
     generates = λ seed count within other. absurd (apart seed count (sym is ∙ other));
@@ -43,16 +43,16 @@ module _ (outcome : Status) (given : List (List ℕ)) (WasDone : List Done → T
     nothing = λ same. did;
   }
 
--- the same deeds, with more said of them
-pub generated_said : (P Q : List Done → Type 0) (outcome : Status) (seed count : ℕ) (t u : Option (List ℕ)) → ((deeds : List Done) → P deeds → Q deeds) → Generated outcome seed count P t u
+-- the same steps, with more said of them
+pub generated_said : (P Q : List StepRecord → Type 0) (outcome : Status) (seed count : ℕ) (t u : Option (List ℕ)) → ((trace : List StepRecord) → P trace → Q trace) → Generated outcome seed count P t u
     → Generated outcome seed count Q t u
 generated_said P Q outcome seed count t u more r =
     record { done = r.done; all = r.all; unforged = r.unforged; text = r.text; ends = r.ends; appended = r.appended; did = more _ r.did }
 
-pub all_said : (P Q : List Done → Type 0) (outcome : Status) (given : List (List ℕ)) (before now : Streams) → ((deeds : List Done) → P deeds → Q deeds) → Ran outcome given P before now
+pub all_said : (P Q : List StepRecord → Type 0) (outcome : Status) (given : List (List ℕ)) (before now : Streams) → ((trace : List StepRecord) → P trace → Q trace) → Ran outcome given P before now
     → Ran outcome given Q before now
 all_said P Q outcome given before now more r = record {
-  replays = λ is. said script_lines (λ deeds. P (done_in deeds)) (λ deeds. Q (done_in deeds)) (Run outcome) before.left now.left before.taken now.taken (λ deeds. more (done_in deeds)) (r.replays is);
+  replays = λ is. said script_lines (λ trace. P (done_in trace)) (λ trace. Q (done_in trace)) (Run outcome) before.left now.left before.taken now.taken (λ trace. more (done_in trace)) (r.replays is);
   generates = λ seed count within is. generated_said P Q outcome seed count before.taken now.taken more (r.generates seed count within is);
   nothing = λ none. more [] (r.nothing none);
 }

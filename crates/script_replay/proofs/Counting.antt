@@ -1,4 +1,4 @@
--- How often a storage's failures are told: of one event, and of deeds one after another.
+-- How often a storage's failures are told: of one event, and of steps one after another.
 use Rattle.std.proofs.Common.{◌≡◌, ◌⊎◌, inl, inr, ℕ, ◌+◌, ◌-◌, ◌<◌, ◌≤◌, ◌^◌, List, [], ◌∷◌, length, get_or, Bool, true, false, Option, Some, None, refl, sym, ap, subst, arith}
 use Rattle.std.specs.Prelude.{IsSome, IsNone, slice_get}
 use Rattle.std.proofs.lemmas.Option.{slice_get-get_or, slice_get_within}
@@ -15,7 +15,7 @@ use Rattle.node_storage.specs.declared.node.Node.{Ghosts}
 use Rattle.node_storage.specs.Stands.{meters_of}
 use Rattle.node_turns.specs.Costs.{Charged}
 use Rattle.node_turns.specs.Printing.{Printer}
-use Rattle.bench_abstraction.specs.Taken.{as_given}
+use Rattle.bench_abstraction.specs.Routing.{as_given}
 use Rattle.bench.specs.Benches.{Nodes, At, IsReady, BenchOf}
 use Rattle.bench.specs.Outside.{Outside}
 use Rattle.bench.specs.Costs.{Balanced, armed, one_if}
@@ -23,7 +23,7 @@ use Rattle.bench.specs.Places.{Begun, IsStopped}
 use Rattle.bench.proofs.Making.{pairs_at}
 use Rattle.script_replay.specs.Chains.{Scene, scene, DidEvent, DidEvents, SceneOf}
 use Rattle.script_replay.specs.Counts.{BalancedAt, AreBalanced, FaultsTold}
-use Rattle.line_extensions.specs.Deeds.{Done}
+use Rattle.line_extensions.specs.Trace.{StepRecord}
 use Rattle.script_replay.specs.Run.{Leaves}
 use Rattle.line_runs.specs.declared.status.Status.TheVariants as status
 use Rattle.line_runs.specs.declared.status.SideStatus.{SideStatus}
@@ -111,9 +111,9 @@ after_still p f k was mid is first second =
     }
 
 -- what an event costs a node, and what the others do
-deed_balanced : (m : Node) (given : Event) (d : Done) (reply : Reply) (rest : List Done) (was mid is : Meters) → d.reply ≡ reply → Charged m given reply was mid
+trace_step_balanced : (m : Node) (given : Event) (d : StepRecord) (reply : Reply) (rest : List StepRecord) (was mid is : Meters) → d.reply ≡ reply → Charged m given reply was mid
     → BalancedAt m rest mid is → BalancedAt m (d ∷ rest) was is
-deed_balanced m given d reply rest was mid is told charged others =
+trace_step_balanced m given d reply rest was mid is told charged others =
     two_balanced _ _ _ _ _ _ was mid is (one_balanced m given d.reply was mid (subst (λ (x : Reply). Charged m given x was mid) (sym told) charged)) others
 
 -- == a run's end ==
@@ -130,7 +130,7 @@ left_same behind new same = record {
   later = let is = ap (λ (x : Scene _ _ _ _). x.outside.rates.faults) same in omega (arith, is);
 }
 
--- at the end of the run the bench and the printer are as the deeds left them
+-- at the end of the run the bench and the printer are as the steps left them
 pub left_so : {D C H V : Type 0} (outcome : SideStatus) (behind new : Scene D C H V) → Leaves outcome behind new → LeftSo behind new
 left_so (Run status.Done) behind new is = left_same behind new is
 left_so (Run status.Words) behind new is = left_same behind new is
@@ -164,36 +164,36 @@ module _ (n : Nodes) where
   none_done : (old : SceneOf n) → AreBalanced n old old []
   none_done old = record { nodes = same_balanced old.bench; printer = none_told old.outside.printer.faults; rates = none_told old.outside.rates.faults }
 
-  -- one deed, and the others
-  first_nodes : (old mid new : SceneOf n) (d : Done) (rest : List Done) → IsReady old.bench → DidEvent n old mid d → AreBalanced n mid new rest
+  -- one step, and the others
+  first_nodes : (old mid new : SceneOf n) (d : StepRecord) (rest : List StepRecord) → IsReady old.bench → DidEvent n old mid d → AreBalanced n mid new rest
       → (m : Node) → At n (λ k i x s t. BalancedAt i (d ∷ rest) (meters_of k.ghosts n.storage s) (meters_of k.ghosts n.storage t)) old.bench new.bench m
   first_nodes old mid new d rest ready event others (Device x) = λ i s t next hs ht.
       let inside : i < length mid.bench.devices = omega (arith, slice_get_within old.bench.devices i s hs, ready.eight, event.ready.eight) in
       let u = get_or mid.bench.devices i s in
       let there = slice_get-get_or mid.bench.devices i s inside in
-      deed_balanced (Device x) (as_given old.bench.messages d.event) d event.turn.reply rest (meters_of n.devices n.storage s) (meters_of n.devices n.storage u) (meters_of n.devices n.storage t) event.told
+      trace_step_balanced (Device x) (as_given old.bench.messages d.event) d event.turn.reply rest (meters_of n.devices n.storage s) (meters_of n.devices n.storage u) (meters_of n.devices n.storage t) event.told
       (event.steps.always.nodes (Device x) i s u next hs there).charged (others.nodes (Device x) i u t next there ht)
   first_nodes old mid new d rest ready event others Centre =
-      deed_balanced Centre (as_given old.bench.messages d.event) d event.turn.reply rest (meters_of n.centre n.storage old.bench.centre) (meters_of n.centre n.storage mid.bench.centre)
+      trace_step_balanced Centre (as_given old.bench.messages d.event) d event.turn.reply rest (meters_of n.centre n.storage old.bench.centre) (meters_of n.centre n.storage mid.bench.centre)
       (meters_of n.centre n.storage new.bench.centre) event.told (event.steps.always.nodes Centre).charged (others.nodes Centre)
   first_nodes old mid new d rest ready event others Host =
-      deed_balanced Host (as_given old.bench.messages d.event) d event.turn.reply rest (meters_of n.host n.storage old.bench.host) (meters_of n.host n.storage mid.bench.host)
+      trace_step_balanced Host (as_given old.bench.messages d.event) d event.turn.reply rest (meters_of n.host n.storage old.bench.host) (meters_of n.host n.storage mid.bench.host)
       (meters_of n.host n.storage new.bench.host) event.told (event.steps.always.nodes Host).charged (others.nodes Host)
   first_nodes old mid new d rest ready event others Verifier =
-      deed_balanced Verifier (as_given old.bench.messages d.event) d event.turn.reply rest (meters_of n.verifier n.storage old.bench.verifier) (meters_of n.verifier n.storage mid.bench.verifier)
+      trace_step_balanced Verifier (as_given old.bench.messages d.event) d event.turn.reply rest (meters_of n.verifier n.storage old.bench.verifier) (meters_of n.verifier n.storage mid.bench.verifier)
       (meters_of n.verifier n.storage new.bench.verifier) event.told (event.steps.always.nodes Verifier).charged (others.nodes Verifier)
 
-  first_printer : (old mid : SceneOf n) (d : Done) → DidEvent n old mid d → FaultsTold (one_if (tells_printer d.reply)) old.outside.printer.faults mid.outside.printer.faults
+  first_printer : (old mid : SceneOf n) (d : StepRecord) → DidEvent n old mid d → FaultsTold (one_if (tells_printer d.reply)) old.outside.printer.faults mid.outside.printer.faults
   first_printer old mid d event =
       subst (λ (x : Reply). FaultsTold (one_if (tells_printer x)) old.outside.printer.faults mid.outside.printer.faults) (sym event.told)
       (printer_told event.turn.reply event.steps.always.printer.0 old.outside.printer mid.outside.printer event.steps.always.printer.1)
 
-  first_rates : (old mid : SceneOf n) (d : Done) → DidEvent n old mid d → FaultsTold (one_if (tells_rates d.reply)) old.outside.rates.faults mid.outside.rates.faults
+  first_rates : (old mid : SceneOf n) (d : StepRecord) → DidEvent n old mid d → FaultsTold (one_if (tells_rates d.reply)) old.outside.rates.faults mid.outside.rates.faults
   first_rates old mid d event =
       rates_told old.bench.messages d.event d.reply d.text event.turn old.bench.day old.bench.rates mid.bench.rates old.outside.rates mid.outside.rates event.told
       event.steps.always.rates event.steps.always.day (subst (λ (x : Reply). MayGet (as_given old.bench.messages d.event) x) (sym event.told) event.steps.always.reply)
 
-  first_done : (old mid new : SceneOf n) (d : Done) (rest : List Done) → IsReady old.bench → DidEvent n old mid d → AreBalanced n mid new rest
+  first_done : (old mid new : SceneOf n) (d : StepRecord) (rest : List StepRecord) → IsReady old.bench → DidEvent n old mid d → AreBalanced n mid new rest
       → AreBalanced n old new (d ∷ rest)
   first_done old mid new d rest ready event others = record {
     nodes = first_nodes old mid new d rest ready event others;
@@ -201,35 +201,35 @@ module _ (n : Nodes) where
     rates = more_told _ _ old.outside.rates.faults mid.outside.rates.faults new.outside.rates.faults (first_rates old mid d event) others.rates;
   }
 
-  steps_balanced : (old new : SceneOf n) (deeds : List Done) → IsReady old.bench → DidEvents n old new deeds → AreBalanced n old new deeds
+  steps_balanced : (old new : SceneOf n) (trace : List StepRecord) → IsReady old.bench → DidEvents n old new trace → AreBalanced n old new trace
   steps_balanced old new [] ready did = subst (λ (x : SceneOf n). AreBalanced n old x []) (sym did) (none_done old)
   steps_balanced old new (d ∷ rest) ready did = first_done old did.0 new d rest ready did.1 (steps_balanced did.0 new rest did.1.ready did.2)
 
   -- the run begins before
-  begun_nodes : (old begun : BenchOf n) (new : SceneOf n) (was : Outside) (deeds : List Done) → IsReady old → IsReady begun → Begun n old begun → AreBalanced n (scene begun was) new deeds
-      → (m : Node) → At n (λ k i d s t. BalancedAt i deeds (meters_of k.ghosts n.storage s) (meters_of k.ghosts n.storage t)) old new.bench m
-  begun_nodes old begun new was deeds ready ready' begins others (Device d) = λ i s t next hs ht.
+  begun_nodes : (old begun : BenchOf n) (new : SceneOf n) (was : Outside) (trace : List StepRecord) → IsReady old → IsReady begun → Begun n old begun → AreBalanced n (scene begun was) new trace
+      → (m : Node) → At n (λ k i d s t. BalancedAt i trace (meters_of k.ghosts n.storage s) (meters_of k.ghosts n.storage t)) old new.bench m
+  begun_nodes old begun new was trace ready ready' begins others (Device d) = λ i s t next hs ht.
       let inside : i < length begun.devices = omega (arith, slice_get_within old.devices i s hs, ready.eight, ready'.eight) in
       let u = get_or begun.devices i s in
       let there = slice_get-get_or begun.devices i s inside in
       after_still _ _ _ (meters_of n.devices n.storage s) (meters_of n.devices n.storage u) (meters_of n.devices n.storage t) (still_balanced old begun begins (Device d) i s u next hs there)
       (others.nodes (Device d) i u t next there ht)
-  begun_nodes old begun new was deeds ready ready' begins others Centre =
+  begun_nodes old begun new was trace ready ready' begins others Centre =
       after_still _ _ _ (meters_of n.centre n.storage old.centre) (meters_of n.centre n.storage begun.centre) (meters_of n.centre n.storage new.bench.centre) (still_balanced old begun begins Centre) (others.nodes Centre)
-  begun_nodes old begun new was deeds ready ready' begins others Host =
+  begun_nodes old begun new was trace ready ready' begins others Host =
       after_still _ _ _ (meters_of n.host n.storage old.host) (meters_of n.host n.storage begun.host) (meters_of n.host n.storage new.bench.host) (still_balanced old begun begins Host) (others.nodes Host)
-  begun_nodes old begun new was deeds ready ready' begins others Verifier =
+  begun_nodes old begun new was trace ready ready' begins others Verifier =
       after_still _ _ _ (meters_of n.verifier n.storage old.verifier) (meters_of n.verifier n.storage begun.verifier) (meters_of n.verifier n.storage new.bench.verifier)
       (still_balanced old begun begins Verifier) (others.nodes Verifier)
 
-  pub run_balanced : (old : SceneOf n) (begun : BenchOf n) (behind new : SceneOf n) (deeds : List Done) → IsReady old.bench → IsReady begun → Begun n old.bench begun
-      → DidEvents n (scene begun old.outside) behind deeds → LeftSo behind new → AreBalanced n old new deeds
-  run_balanced old begun behind new deeds ready ready' begins did left =
-      let all = steps_balanced (scene begun old.outside) behind deeds ready' did in
+  pub run_balanced : (old : SceneOf n) (begun : BenchOf n) (behind new : SceneOf n) (trace : List StepRecord) → IsReady old.bench → IsReady begun → Begun n old.bench begun
+      → DidEvents n (scene begun old.outside) behind trace → LeftSo behind new → AreBalanced n old new trace
+  run_balanced old begun behind new trace ready ready' begins did left =
+      let all = steps_balanced (scene begun old.outside) behind trace ready' did in
       let still : behind.outside.printer.faults ≤ new.outside.printer.faults = let same = ap (λ (p : Printer). p.faults) left.printer in omega (arith, same) in
       record {
-        nodes = λ m. subst (λ (b : BenchOf n). At n (λ k i d s t. BalancedAt i deeds (meters_of k.ghosts n.storage s) (meters_of k.ghosts n.storage t)) old.bench b m) (sym left.bench)
-            (begun_nodes old.bench begun behind old.outside deeds ready ready' begins all m);
+        nodes = λ m. subst (λ (b : BenchOf n). At n (λ k i d s t. BalancedAt i trace (meters_of k.ghosts n.storage s) (meters_of k.ghosts n.storage t)) old.bench b m) (sym left.bench)
+            (begun_nodes old.bench begun behind old.outside trace ready ready' begins all m);
         printer = told_still _ old.outside.printer.faults behind.outside.printer.faults new.outside.printer.faults all.printer still;
         rates = told_still _ old.outside.rates.faults behind.outside.rates.faults new.outside.rates.faults all.rates left.later;
       }

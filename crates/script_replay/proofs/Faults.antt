@@ -17,7 +17,7 @@ use Rattle.host_rates.specs.Answers.{answer}
 use Rattle.text_streams.specs.Texts.{print_line}
 use Rattle.node_turns.specs.declared.turn.Turn.{Turn}
 use Rattle.node_turns.specs.Printing.{Printer, PrinterDid}
-use Rattle.bench_abstraction.specs.Taken.{as_given, as_given_by, as_scanned_by}
+use Rattle.bench_abstraction.specs.Routing.{as_given, as_given_by, as_scanned_by}
 use Rattle.bench.specs.Costs.{one_if}
 use Rattle.bench.specs.Outside.{Feed, rates_turn, ReadsText, ReadsNothing, ReadsRates}
 use Rattle.script_replay.specs.Counts.{FaultsTold}

@@ -14,7 +14,7 @@ use Rattle.node_turns.specs.Printing.{Printer}
 use Rattle.bench_base.specs.Events.{Brought, Nothing, Handed, Scanned, brought_by}
 use Rattle.ledger_moves.specs.Histories.{IsKnown, AreKnown}
 use Rattle.ledger_moves.specs.Tariffs.{Tariff}
-use Rattle.bench_abstraction.specs.Taken.{as_given, as_given_by, as_scanned_by}
+use Rattle.bench_abstraction.specs.Routing.{as_given, as_given_by, as_scanned_by}
 use Rattle.bench.specs.Benches.{Nodes}
 use Rattle.bench.specs.Outside.{Outside, Feed}
 use Rattle.generator.specs.Events.{generated}
@@ -23,8 +23,8 @@ use Rattle.script_text.specs.Summaries.{Tally, tally_of, one_in, column_of}
 use Rattle.script_text.specs.declared.column.Column.{Column}
 use Rattle.script_text.specs.declared.column.Column.TheVariants as column
 use Rattle.script_replay.specs.Chains.{DidEvent, DidEvents, SceneOf}
-use Rattle.line_extensions.specs.Deeds.{Done}
-use Rattle.script_replay.specs.Deeds.{ledger_by, AreUnforged}
+use Rattle.line_extensions.specs.Trace.{StepRecord}
+use Rattle.script_replay.specs.Trace.{ledger_by, AreUnforged}
 use Rattle.script_replay.specs.Generated.{events_of, replies_of, summary_line, EndsWith, InTheMidst, Generated}
 use Rattle.script_replay.specs.Run.{Unforged}
 use Rattle.line_runs.specs.Turns.{AreDone, Ended}
@@ -55,29 +55,29 @@ known H Nothing debit = tt
 known H (Handed n bytes) debit = subst (λ x. IsKnown bytes x n H) (sym debit.1) (λ to. tt)
 known H (Scanned bytes) debit = absurd debit
 
-pub none_forged : (τ : Tariff) (H : Ledger) (done : List Done) → AllByRecursion GivesOnlyDebits (events_of done) → AreUnforged τ Unforged H done
+pub none_forged : (τ : Tariff) (H : Ledger) (done : List StepRecord) → AllByRecursion GivesOnlyDebits (events_of done) → AreUnforged τ Unforged H done
 none_forged τ H [] each = tt
 none_forged τ H (d ∷ rest) each = (known H (brought_by d.event) each.0, none_forged τ (ledger_by τ H d) rest each.1)
 
 -- == so far ==
 
-module _ {B : Type 0} (Does : B → B → List Done → Type 0) (Leaves : SideStatus → B → B → Type 0) (chain : AreDone Does Leaves) (seed count : ℕ) where
+module _ {B : Type 0} (Does : B → B → List StepRecord → Type 0) (Leaves : SideStatus → B → B → Type 0) (chain : AreDone Does Leaves) (seed count : ℕ) where
   -- the next event is one of them
   pub next_is : (P : Event → Type 0) → AllByRecursion P (generated seed count) → (to_come : List Event) (tally : Tally) (old new : B) → InTheMidst Does seed count to_come tally old new
       → (e : Event) (rest : List Event) → to_come ≡ e ∷ rest → P e
   next_is P each to_come tally old new midst e rest is =
       next_of P (events_of midst.done) e rest (subst (AllByRecursion P) (sym midst.all ∙ ap (λ (l : List Event). events_of midst.done ++ l) is) each)
 
-  pub midst_more : (to_come rest : List Event) (tally now : Tally) (old mid new : B) (e : Event) (d : Done) → InTheMidst Does seed count to_come tally old mid → to_come ≡ e ∷ rest → d.event ≡ e
+  pub midst_more : (to_come rest : List Event) (tally now : Tally) (old mid new : B) (e : Event) (d : StepRecord) → InTheMidst Does seed count to_come tally old mid → to_come ≡ e ∷ rest → d.event ≡ e
       → Does mid new (d ∷ []) → ((replies : List Reply) → tally ≡ tally_of replies → now ≡ tally_of (replies ++ d.reply ∷ [])) → InTheMidst Does seed count rest now old new
   midst_more to_come rest tally now old mid new e d midst is same did counted =
-      let events : events_of (midst.done ++ d ∷ []) ≡ events_of midst.done ++ d.event ∷ [] = one_more (λ (x : Done). x.event) midst.done d in
+      let events : events_of (midst.done ++ d ∷ []) ≡ events_of midst.done ++ d.event ∷ [] = one_more (λ (x : StepRecord). x.event) midst.done d in
       record {
         done = midst.done ++ d ∷ [];
         all = ap (λ (l : List Event). l ++ rest) events ∙ append_assoc (events_of midst.done) (d.event ∷ []) rest ∙ ap (λ (x : Event). events_of midst.done ++ x ∷ rest) same
             ∙ ap (λ (l : List Event). events_of midst.done ++ l) (sym is) ∙ midst.all;
         did = chain.both old mid new midst.done (d ∷ []) midst.did did;
-        tally_is = counted (replies_of midst.done) midst.tally_is ∙ ap tally_of (sym (one_more (λ (x : Done). x.reply) midst.done d));
+        tally_is = counted (replies_of midst.done) midst.tally_is ∙ ap tally_of (sym (one_more (λ (x : StepRecord). x.reply) midst.done d));
       }
 
   not_for_memory : (outcome : Status) (text line : List ℕ) → EndsWith outcome text line → Run outcome ≢ Run status.Memory
@@ -104,12 +104,12 @@ module _ {B : Type 0} (Does : B → B → List Done → Type 0) (Leaves : SideSt
 -- == how many there were ==
 
 -- fewer than all, while there are some to come
-pub few_done : {B : Type 0} (Does : B → B → List Done → Type 0) (seed count : ℕ) (to_come rest : List Event) (tally : Tally) (old new : B) (midst : InTheMidst Does seed count to_come tally old new)
+pub few_done : {B : Type 0} (Does : B → B → List StepRecord → Type 0) (seed count : ℕ) (to_come rest : List Event) (tally : Tally) (old new : B) (midst : InTheMidst Does seed count to_come tally old new)
     (e : Event) → to_come ≡ e ∷ rest → length (generated seed count) ≤ 28 + count * 5 → length midst.done < 28 + count * 5
 few_done Does seed count to_come rest tally old new midst e is few =
     let all = ap (λ (l : List Event). length l) (sym midst.all) ∙ length-append (events_of midst.done) to_come in
     let some = ap (λ (l : List Event). length l) is in
-    let same = length-map midst.done (λ (x : Done). x.event) in
+    let same = length-map midst.done (λ (x : StepRecord). x.event) in
     omega (arith, all, some, same, few)
 
 one_event : (c : Column) → (one_in c).events ≡ 1
@@ -125,8 +125,8 @@ pub tally_events : (replies : List Reply) → (tally_of replies).events ≡ leng
 tally_events [] = refl
 tally_events (reply ∷ rest) = let more = tally_events rest in let one = one_event (column_of reply) in omega (arith, more, one)
 
-pub replies_length : (done : List Done) → length (replies_of done) ≡ length done
-replies_length done = length-map done (λ (x : Done). x.reply)
+pub replies_length : (done : List StepRecord) → length (replies_of done) ≡ length done
+replies_length done = length-map done (λ (x : StepRecord). x.reply)
 
 -- == the streams rest ==
 
@@ -154,13 +154,13 @@ outside_same : (a b : Outside) → b.rates ≡ a.rates → b.printer ≡ a.print
 outside_same a b rates printer = ap (λ (x : Feed). both_streams x b.printer) rates ∙ ap (λ (x : Printer). both_streams a.rates x) printer
 
 module _ (n : Nodes) where
-  printer_rests : (old new : SceneOf n) (d : Done) → DidEvent n old new d → NeedsNoStream d.event → new.outside.printer ≡ old.outside.printer
+  printer_rests : (old new : SceneOf n) (d : StepRecord) → DidEvent n old new d → NeedsNoStream d.event → new.outside.printer ≡ old.outside.printer
   printer_rests old new d did alone =
       let gets = λ (x : Reply) (is : did.turn.reply ≡ x). subst (λ (y : Reply). MayGet (as_given old.bench.messages d.event) y) is did.steps.always.reply in
       did.steps.always.printer.1.rests (λ j is. alone.printer j (only_print old.bench.messages d.event j (gets (r.Printed j) is)))
       (λ j is. alone.printer j (only_print old.bench.messages d.event j (gets (r.PrinterFault j) is)))
 
-  pub streams_rest : (old new : SceneOf n) (done : List Done) → DidEvents n old new done → AllByRecursion NeedsNoStream (events_of done) → new.outside ≡ old.outside
+  pub streams_rest : (old new : SceneOf n) (done : List StepRecord) → DidEvents n old new done → AllByRecursion NeedsNoStream (events_of done) → new.outside ≡ old.outside
   streams_rest old new [] did each = ap (λ (x : SceneOf n). x.outside) did
   streams_rest old new (d ∷ rest) did each =
       let mid = did.0 in

@@ -11,8 +11,8 @@ use Rattle.bench.specs.Benches.{Nodes, IsReady}
 use Rattle.bench.proofs.EachKind.{all_rest}
 use Rattle.bench.proofs.Left.{rest_stopped}
 use Rattle.script_replay.specs.Chains.{DidEvents, SceneOf}
-use Rattle.line_extensions.specs.Deeds.{Done}
-use Rattle.script_replay.specs.Deeds.{ledger_by}
+use Rattle.line_extensions.specs.Trace.{StepRecord}
+use Rattle.script_replay.specs.Trace.{ledger_by}
 use Rattle.script_replay.specs.Throughout.{StandsFor, IsBetween, Throughout}
 use Rattle.script_replay.proofs.Chains.{steps_on, stands_then}
 
@@ -26,8 +26,8 @@ module _ (n : Nodes) (today : Editions editions) (holds : ForHistories Holds)
     left = λ stores are. (History.begins s.history, rest_stopped n at.bench at.bench (all_rest at.bench) ready L s.stands tells stores are);
   }
 
-  pub throughout : (old new : SceneOf n) (deeds : List Done) (L : Ledger) (did : DidEvents n old new deeds) → IsReady old.bench → StandsFor n τ old.bench L
-      → Throughout n τ L old new deeds did
+  pub throughout : (old new : SceneOf n) (trace : List StepRecord) (L : Ledger) (did : DidEvents n old new trace) → IsReady old.bench → StandsFor n τ old.bench L
+      → Throughout n τ L old new trace did
   throughout old new [] L did ready s = between old L ready s
   throughout old new (d ∷ rest) L did ready s = (
     between old L ready s,

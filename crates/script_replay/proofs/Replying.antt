@@ -10,7 +10,7 @@ use Rattle.bench.specs.Benches.{Bench, Nodes, IsReady, BenchOf}
 use Rattle.bench.specs.Outside.{Outside, WantsMemory}
 use Rattle.bench.specs.Steps.{Steps}
 use Rattle.script_replay.specs.Chains.{scene, DidEvent}
-use Rattle.line_extensions.specs.Deeds.{Done, done}
+use Rattle.line_extensions.specs.Trace.{StepRecord, done}
 use Rattle.script_replay.specs.Sides.{StepsBy}
 use Rattle.script_replay.specs.Run.{Leaves}
 use Rattle.line_runs.specs.declared.status.Status.TheVariants as status
@@ -43,7 +43,7 @@ module _ (n : Nodes)
 
   -- the same, told to a desk
   pub stepped : {A E : Type 0} (IsOf : A → Turn → Type 0) (result : Result A E) → IsReady new → IfOk result (λ told. (text : List ℕ) × (turn : Turn) × IsOf told turn × Steps n e text turn old new before now)
-      → IfOk result (λ told. (d : Done) × (turn : Turn) × (d.event ≡ e) × StepsBy n (scene old before) (scene new now) d turn × IsOf told turn)
+      → IfOk result (λ told. (d : StepRecord) × (turn : Turn) × (d.event ≡ e) × StepsBy n (scene old before) (scene new now) d turn × IsOf told turn)
   stepped IsOf (Err fail) ready did = did
   stepped IsOf (Ok told) ready did =
       let steps = did.3 in

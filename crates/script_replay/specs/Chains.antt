@@ -1,4 +1,4 @@
--- What a bench did for deeds, one event after the other.
+-- What a bench did for steps, one event after the other.
 use Rattle.std.specs.Prelude.{◌≡◌, ℕ, List, [], ◌∷◌, Option}
 use Rattle.std.specs.Io.KnownBytes.{Consumes, Appends}
 use Rattle.nv_model.specs.declared.nv.Nv as nv
@@ -13,7 +13,7 @@ use Rattle.bench.specs.declared.benches.BenchOver.{BenchOver}
 use Rattle.bench.specs.Benches.{Bench, Nodes, IsReady, bench_of}
 use Rattle.bench.specs.Outside.{Outside, outside}
 use Rattle.bench.specs.Steps.{Steps}
-use Rattle.line_extensions.specs.Deeds.{Done, Deed, done_in}
+use Rattle.line_extensions.specs.Trace.{StepRecord, TraceStep, done_in}
 use Rattle.script_replay.specs.Marks.{IsPrinted}
 
 -- a bench and its two streams
@@ -38,7 +38,7 @@ scene_of r p bench rates printer = scene (bench_of bench) (outside r rates p pri
 
 module _ (n : Nodes) where
   -- the bench did one event by a step, told its reply, took this text of the rates and printed this
-  pub record DidEvent (old new : SceneOf n) (d : Done) : Type 0 where
+  pub record DidEvent (old new : SceneOf n) (d : StepRecord) : Type 0 where
     pub ready : IsReady new.bench
     pub turn : Turn
     pub told : d.reply ≡ turn.reply
@@ -48,10 +48,10 @@ module _ (n : Nodes) where
     pub appended : Appends old.outside.printer.taken new.outside.printer.taken d.printed
 
   -- the bench did the events by steps, one after the other
-  abbrev pub DidEvents : SceneOf n → SceneOf n → List Done → Type 0
+  abbrev pub DidEvents : SceneOf n → SceneOf n → List StepRecord → Type 0
   DidEvents old new [] = new ≡ old
   DidEvents old new (d ∷ rest) = (mid : SceneOf n) × DidEvent old mid d × DidEvents mid new rest
 
   -- it did those of the lines
-  abbrev pub DidDeeds : SceneOf n → SceneOf n → List Deed → Type 0
-  DidDeeds old new deeds = DidEvents old new (done_in deeds)
+  abbrev pub DidTrace : SceneOf n → SceneOf n → List TraceStep → Type 0
+  DidTrace old new trace = DidEvents old new (done_in trace)

@@ -7,18 +7,18 @@ use Rattle.bench_base.specs.Ledger.{Ledger}
 use Rattle.ledger_moves.specs.Tariffs.{Tariff}
 use Rattle.script_text.specs.Summaries.{Tally, tally_of, summary_text}
 use Rattle.generator.specs.Events.{generated}
-use Rattle.line_extensions.specs.Deeds.{Done}
-use Rattle.script_replay.specs.Deeds.{AreUnforged}
+use Rattle.line_extensions.specs.Trace.{StepRecord}
+use Rattle.script_replay.specs.Trace.{AreUnforged}
 use Rattle.line_runs.specs.Lines.{ended, IsCutOff}
 use Rattle.script_replay.specs.Run.{Unforged}
 use Rattle.line_runs.specs.declared.status.Status.{Status}
 use Rattle.line_runs.specs.declared.status.Status.TheVariants as status
 
-abbrev pub events_of : List Done → List Event
-events_of done = map (λ (d : Done). d.event) done
+abbrev pub events_of : List StepRecord → List Event
+events_of done = map (λ (d : StepRecord). d.event) done
 
-abbrev pub replies_of : List Done → List Reply
-replies_of done = map (λ (d : Done). d.reply) done
+abbrev pub replies_of : List StepRecord → List Reply
+replies_of done = map (λ (d : StepRecord). d.reply) done
 
 -- the line of the summary
 abbrev pub summary_line : ℕ → ℕ → List Reply → List ℕ
@@ -35,15 +35,15 @@ EndsWith status.Memory text line = ⊥
 EndsWith status.TooLong text line = ⊥
 
 -- So far these events were done, and these are still to come; the tally is that of the replies.
-pub record InTheMidst {B : Type 0} (Does : B → B → List Done → Type 0) (seed count : ℕ) (to_come : List Event) (tally : Tally) (old new : B) : Type 0 where
-  pub done : List Done
+pub record InTheMidst {B : Type 0} (Does : B → B → List StepRecord → Type 0) (seed count : ℕ) (to_come : List Event) (tally : Tally) (old new : B) : Type 0 where
+  pub done : List StepRecord
   pub all : events_of done ++ to_come ≡ generated seed count
   pub did : Does old new done
   pub tally_is : tally ≡ tally_of (replies_of done)
 
 -- All events of the run were done, none of which brings anything that is forged, and then the report took the summary of the replies.
-pub record Generated (outcome : Status) (seed count : ℕ) (WasDone : List Done → Type 0) (taken0 taken1 : Option (List ℕ)) : Type 0 where
-  pub done : List Done
+pub record Generated (outcome : Status) (seed count : ℕ) (WasDone : List StepRecord → Type 0) (taken0 taken1 : Option (List ℕ)) : Type 0 where
+  pub done : List StepRecord
   pub all : events_of done ≡ generated seed count
   pub unforged : (τ : Tariff) (H : Ledger) → AreUnforged τ Unforged H done
   pub text : List ℕ

@@ -1,6 +1,6 @@
 -- Promised: public contracts name these.
 pub mod Chains
-pub mod Deeds
+pub mod Trace
 pub mod Fresh
 pub mod Headline
 pub mod Outside

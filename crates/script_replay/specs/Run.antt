@@ -1,4 +1,4 @@
--- A run over a script: what it means to do its deeds.
+-- A run over a script: what it means to do its steps.
 use Rattle.std.specs.Prelude.{◌≡◌, List, [], ◌∷◌, None, IsSome}
 use Rattle.std.specs.Io.KnownBytes.{Consumes, Appends}
 use Rattle.bench_base.specs.declared.ledger.Entry.TheVariants.{Begin}
@@ -19,8 +19,8 @@ use Rattle.bench.specs.Outside.{WantsMemory}
 use Rattle.bench.specs.Places.{Begun}
 use Rattle.script_replay.specs.Chains.{Scene, scene, DidEvents, SceneOf}
 use Rattle.script_replay.specs.Counts.{AreBalanced}
-use Rattle.line_extensions.specs.Deeds.{Done}
-use Rattle.script_replay.specs.Deeds.{rates_of, printed_of, ledger_after, RunWhile, AreUnforged}
+use Rattle.line_extensions.specs.Trace.{StepRecord}
+use Rattle.script_replay.specs.Trace.{rates_of, printed_of, ledger_after, RunWhile, AreUnforged}
 use Rattle.script_replay.specs.Marks.{IsPrinted}
 use Rattle.script_replay.specs.Throughout.{IsAllPaid, StandsFor, Throughout}
 use Rattle.script_replay.specs.Undisturbed.{IsAnswer, IsTheAnswer, NoneOpen, AreUndisturbed}
@@ -29,25 +29,25 @@ use Rattle.line_runs.specs.declared.status.Status.TheVariants as status
 use Rattle.line_runs.specs.declared.status.SideStatus.{SideStatus}
 use Rattle.line_runs.specs.declared.status.SideStatus.TheVariants.{Run, Stopped}
 
--- == what it means to do the deeds ==
+-- == what it means to do the steps ==
 
 -- what comes from outside in the event is not forged
 abbrev pub Unforged : Ledger → Event → Type 0
 Unforged H e = histories.Unforged e H
 
 -- the reply is one that the event may get at this ledger
-abbrev pub Moves : Tariff → Ledger → Done → Type 0
+abbrev pub Moves : Tariff → Ledger → StepRecord → Type 0
 Moves τ H d = moves.Moves τ todays_rules H d.event d.text d.reply
 
 -- what was printed is of the mark that the event prints at this ledger
-abbrev pub Prints : Tariff → Ledger → Done → Type 0
+abbrev pub Prints : Tariff → Ledger → StepRecord → Type 0
 Prints τ H d = IsPrinted d.reply (print_of (plan τ todays_rules H d.event d.text).after) d.printed
 
 -- no reply is one that never comes
-abbrev pub Sane : Ledger → Done → Type 0
+abbrev pub Sane : Ledger → StepRecord → Type 0
 Sane H d = IsSane d.reply
 
--- What a run leaves, by its end: all is as the deeds left it; except for lack of memory, which a `rates` on a day may find, some of the
+-- What a run leaves, by its end: all is as the steps left it; except for lack of memory, which a `rates` on a day may find, some of the
 -- rates may be taken.
 abbrev pub Leaves : {D C H V : Type 0} → SideStatus → Scene D C H V → Scene D C H V → Type 0
 Leaves (Run status.Done) behind now = now ≡ behind
@@ -61,35 +61,35 @@ Leaves Stopped behind now = now ≡ behind
 
 module _ (n : Nodes) where
   -- By a history for which the bench stood, with a run begun: each reply is one that its event may get there, and as long as
-  -- nothing from outside is forged the bench represents what the deeds leave, which is lawful and paid for to the letter box, and no
+  -- nothing from outside is forged the bench represents what the steps leave, which is lawful and paid for to the letter box, and no
   -- reply is one that never comes where devices and centre are honest. A printer that tells what it took has the marks of the events. Where no storage and no
   -- stream failed and no fuse was armed, each reply is the answer: of a node that comes on with an open commit one of its two, and
   -- where no commit was open at the beginning the answer itself.
-  pub record DidOver (τ : Tariff) (L : Ledger) (old new : SceneOf n) (deeds : List Done) : Type 0 where
-    pub run : RunWhile τ Unforged (Moves τ) (Begin ∷ L) deeds
-    pub stands : AreUnforged τ Unforged (Begin ∷ L) deeds → StandsFor n τ new.bench (ledger_after τ (Begin ∷ L) deeds)
-    pub lawful : AreUnforged τ Unforged (Begin ∷ L) deeds → Lawful todays_rules (ledger_after τ (Begin ∷ L) deeds)
-    pub paid : AreUnforged τ Unforged (Begin ∷ L) deeds → IsAllPaid (ledger_after τ (Begin ∷ L) deeds)
-    pub sane : RunWhile τ Unforged Sane (Begin ∷ L) deeds
-    pub prints : IsSome old.outside.printer.taken → RunWhile τ Unforged (Prints τ) (Begin ∷ L) deeds
-    pub answers : AreUndisturbed n old new deeds → RunWhile τ Unforged (IsAnswer τ) (Begin ∷ L) deeds
-    pub exact : AreUndisturbed n old new deeds → NoneOpen L → RunWhile τ Unforged (IsTheAnswer τ) (Begin ∷ L) deeds
+  pub record DidOver (τ : Tariff) (L : Ledger) (old new : SceneOf n) (trace : List StepRecord) : Type 0 where
+    pub run : RunWhile τ Unforged (Moves τ) (Begin ∷ L) trace
+    pub stands : AreUnforged τ Unforged (Begin ∷ L) trace → StandsFor n τ new.bench (ledger_after τ (Begin ∷ L) trace)
+    pub lawful : AreUnforged τ Unforged (Begin ∷ L) trace → Lawful todays_rules (ledger_after τ (Begin ∷ L) trace)
+    pub paid : AreUnforged τ Unforged (Begin ∷ L) trace → IsAllPaid (ledger_after τ (Begin ∷ L) trace)
+    pub sane : RunWhile τ Unforged Sane (Begin ∷ L) trace
+    pub prints : IsSome old.outside.printer.taken → RunWhile τ Unforged (Prints τ) (Begin ∷ L) trace
+    pub answers : AreUndisturbed n old new trace → RunWhile τ Unforged (IsAnswer τ) (Begin ∷ L) trace
+    pub exact : AreUndisturbed n old new trace → NoneOpen L → RunWhile τ Unforged (IsTheAnswer τ) (Begin ∷ L) trace
 
--- The bench began a run, without a day, messages and rates, and did the deeds: each event by a step, whether or not a history
+-- The bench began a run, without a day, messages and rates, and did the steps: each event by a step, whether or not a history
 -- leads to what the storages show. The rates and the printer are as they took and printed in turn. By a history for which the bench
 -- stood, it stands at each moment for what was done so far, and so does what a stop of the process leaves.
 pub record DidRun (n : Nodes)
-    (old new : SceneOf n) (outcome : Status) (deeds : List Done) : Type 0 where
+    (old new : SceneOf n) (outcome : Status) (trace : List StepRecord) : Type 0 where
   pub begun : BenchOf n
   pub begins : Begun n old.bench begun
   pub no_day : begun.day ≡ None
   pub no_messages : begun.messages ≡ []
   pub no_rates : begun.rates ≡ None
   pub behind : SceneOf n
-  pub steps : DidEvents n (scene begun old.outside) behind deeds
+  pub steps : DidEvents n (scene begun old.outside) behind trace
   pub leaves : Leaves (Run outcome) behind new
-  pub taken : Consumes old.outside.rates.left behind.outside.rates.left (rates_of deeds)
-  pub printed : Appends old.outside.printer.taken new.outside.printer.taken (printed_of deeds)
-  pub balanced : AreBalanced n old new deeds
-  pub over : (τ : Tariff) (L : Ledger) → IsOfTexts τ → StandsFor n τ old.bench L → n.storage.tells → DidOver n τ L old new deeds
-  pub throughout : (τ : Tariff) (L : Ledger) → IsOfTexts τ → StandsFor n τ old.bench L → n.storage.tells → Throughout n τ (Begin ∷ L) (scene begun old.outside) behind deeds steps
+  pub taken : Consumes old.outside.rates.left behind.outside.rates.left (rates_of trace)
+  pub printed : Appends old.outside.printer.taken new.outside.printer.taken (printed_of trace)
+  pub balanced : AreBalanced n old new trace
+  pub over : (τ : Tariff) (L : Ledger) → IsOfTexts τ → StandsFor n τ old.bench L → n.storage.tells → DidOver n τ L old new trace
+  pub throughout : (τ : Tariff) (L : Ledger) → IsOfTexts τ → StandsFor n τ old.bench L → n.storage.tells → Throughout n τ (Begin ∷ L) (scene begun old.outside) behind trace steps

@@ -4,7 +4,7 @@ use Rattle.std.proofs.lemmas.List.{length-append}
 use Rattle.bench.specs.Benches.{Nodes}
 use Rattle.bench.specs.Steps.{notes_of, notes_in}
 use Rattle.script_replay.specs.Chains.{DidEvents, SceneOf}
-use Rattle.line_extensions.specs.Deeds.{Done}
+use Rattle.line_extensions.specs.Trace.{StepRecord}
 use Rattle.node_turns.specs.Turns.{sent_in}
 
 one_note : (o : Option (List ℕ)) → length (notes_of o) ≤ 1
@@ -12,7 +12,7 @@ one_note None = omega arith
 one_note (Some note) = omega arith
 
 module _ (n : Nodes) where
-  pub sent_few : (old new : SceneOf n) (deeds : List Done) → DidEvents n old new deeds → length new.bench.messages ≤ length old.bench.messages + length deeds
+  pub sent_few : (old new : SceneOf n) (trace : List StepRecord) → DidEvents n old new trace → length new.bench.messages ≤ length old.bench.messages + length trace
   sent_few old new [] did = omega (arith, ap (λ (b : SceneOf n). length b.bench.messages) did)
   sent_few old new (d ∷ rest) did =
       let entries = did.1.turn.entries in

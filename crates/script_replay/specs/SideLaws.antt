@@ -4,14 +4,14 @@ use Rattle.bench_base.specs.declared.events.Event.{Event}
 use Rattle.bench_base.specs.declared.events.Event.TheVariants as ev
 use Rattle.bench_base.specs.Replies.{MayGet}
 use Rattle.node_turns.specs.declared.turn.Turn.{Turn}
-use Rattle.bench_abstraction.specs.Taken.{as_given}
+use Rattle.bench_abstraction.specs.Routing.{as_given}
 use Rattle.bench.specs.Benches.{Bench, Nodes}
 use Rattle.bench.proofs.Notes.{scan_names}
 use Rattle.line_runs.specs.declared.status.Status.{Status}
 use Rattle.line_runs.specs.declared.status.Status.TheVariants as status
 use Rattle.line_runs.specs.declared.status.SideStatus.{SideStatus}
 use Rattle.line_runs.specs.declared.status.SideStatus.TheVariants.{Run, Stopped}
-use Rattle.line_extensions.specs.Deeds.{Done}
+use Rattle.line_extensions.specs.Trace.{StepRecord}
 use Rattle.line_extensions.specs.Desks.{World, SideLeaves}
 use Rattle.line_extensions.specs.DeskLaws.{IsChain}
 use Rattle.line_extensions.specs.Wants.{IsQuiet}
@@ -29,13 +29,13 @@ module _ (n : Nodes) where
     both = (all_done n).both;
   }
 
-  pub told : (s t : SceneOf n) (d : Done) (turn : Turn) → StepsBy n s t d turn → d.reply ≡ turn.reply
+  pub told : (s t : SceneOf n) (d : StepRecord) (turn : Turn) → StepsBy n s t d turn → d.reply ≡ turn.reply
   told s t d turn did = did.0.told ∙ ap (λ (x : Turn). x.reply) did.1
 
-  pub sends : (s t : SceneOf n) (d : Done) (turn : Turn) → StepsBy n s t d turn → length t.bench.messages ≤ length s.bench.messages + 1
+  pub sends : (s t : SceneOf n) (d : StepRecord) (turn : Turn) → StepsBy n s t d turn → length t.bench.messages ≤ length s.bench.messages + 1
   sends s t d turn did = let few = sent_few n s t (d ∷ []) (t, did.0, refl) in omega (arith, few)
 
-  pub quiet : (s t : SceneOf n) (d : Done) (turn : Turn) → StepsBy n s t d turn → IsQuiet d.event → length t.bench.messages ≤ length s.bench.messages
+  pub quiet : (s t : SceneOf n) (d : StepRecord) (turn : Turn) → StepsBy n s t d turn → IsQuiet d.event → length t.bench.messages ≤ length s.bench.messages
   quiet s t d turn did is =
       let always = did.0.steps.always in
       let gets : MayGet (ev.ScanHex is.0 is.1) did.0.turn.reply = subst (λ (e : Event). MayGet (as_given s.bench.messages e) did.0.turn.reply) is.2 always.reply in

@@ -9,33 +9,33 @@ use Rattle.line_runs.specs.declared.status.Status.{Status}
 use Rattle.line_runs.specs.declared.status.Status.TheVariants as status
 use Rattle.line_runs.specs.declared.status.SideStatus.{SideStatus}
 use Rattle.line_runs.specs.declared.status.SideStatus.TheVariants.{Run, Stopped}
-use Rattle.line_extensions.specs.Deeds.{Done}
+use Rattle.line_extensions.specs.Trace.{StepRecord}
 use Rattle.line_extensions.specs.Desks.{World, world, SideLeaves, side_grammar, side_lines, Does}
-use Rattle.line_extensions.specs.SideDeeds.{SideDeed, steps_of}
-use Rattle.line_extensions.specs.declared.desk.Desk.{Ghosts}
+use Rattle.line_extensions.specs.SideTrace.{SideStep, steps_of}
+use Rattle.line_extensions.specs.declared.extension.Extension.{Ghosts}
 use Rattle.script_replay.specs.Chains.{scene, DidEvent, SceneOf}
 use Rattle.script_replay.specs.Run.{DidRun, Leaves}
 use Rattle.script_replay.specs.Streams.{Streams}
 
 module _ (n : Nodes) where
   -- this was done by a step of the bench, whose turn this is
-  abbrev pub StepsBy : SceneOf n → SceneOf n → Done → Turn → Type 0
+  abbrev pub StepsBy : SceneOf n → SceneOf n → StepRecord → Turn → Type 0
   StepsBy s t d turn = (did : DidEvent n s t d) × (did.turn ≡ turn)
 
   module _ {K T : Type 0} (k : Ghosts K T) where
-    -- The bench began a run, and desk and bench did the deeds. What the bench did of them is what `run` says of a script that has the
+    -- The bench began a run, and desk and bench did the steps. What the bench did of them is what `run` says of a script that has the
     -- events in their place, of the bench that began so.
-    pub record DidSide (old new : World (SceneOf n) K) (outcome : SideStatus) (deeds : List (SideDeed k.Own)) : Type 0 where
+    pub record DidSide (old new : World (SceneOf n) K) (outcome : SideStatus) (trace : List (SideStep k.Own)) : Type 0 where
       pub begun : BenchOf n
       pub behind : World (SceneOf n) K
-      pub did : Does k StepsBy (world (scene begun old.scene.outside) old.desk) behind deeds
+      pub did : Does k StepsBy (world (scene begun old.scene.outside) old.desk) behind trace
       pub leaves : SideLeaves (λ s t. Leaves (Run status.Memory) s t) outcome behind new
       pub ended : Status
-      pub bench : DidRun n old.scene new.scene ended (steps_of deeds)
+      pub bench : DidRun n old.scene new.scene ended (steps_of trace)
       pub same : bench.begun ≡ begun
 
 -- what a run did over the words that were given, where it is called by this one
-pub record RanSide {K T : Type 0} (k : Ghosts K T) (word : List ℕ) (outcome : SideStatus) (given : List (List ℕ)) (WasDone : List (SideDeed k.Own) → Type 0) (before now : Streams) : Type 0 where
+pub record RanSide {K T : Type 0} (k : Ghosts K T) (word : List ℕ) (outcome : SideStatus) (given : List (List ℕ)) (WasDone : List (SideStep k.Own) → Type 0) (before now : Streams) : Type 0 where
   pub replays : given ≡ word ∷ [] → Replayed (side_lines k) outcome WasDone before.left now.left before.taken now.taken
   pub nothing : (given ≡ word ∷ [] → ⊥) → WasDone []
 

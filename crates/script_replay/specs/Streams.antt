@@ -7,7 +7,7 @@ use Rattle.bench.specs.Outside.{Outside, outside}
 use Rattle.script_text.specs.declared.program.Words.{Words}
 use Rattle.script_text.specs.declared.program.Words.TheVariants.{Replay, Generate}
 use Rattle.script_text.specs.Programs.{program_words, AreInRange}
-use Rattle.line_extensions.specs.Deeds.{Done, done_in}
+use Rattle.line_extensions.specs.Trace.{StepRecord, done_in}
 use Rattle.line_runs.specs.Ends.{EndsAs, IsByScript, IsComplete}
 use Rattle.line_runs.specs.Runs.{Replayed}
 use Rattle.script_replay.specs.Generated.{Generated}
@@ -37,14 +37,14 @@ abbrev pub AreNone : List (List ℕ) → Type 0
 AreNone given = (w : Words) → AreInRange w → given ≢ program_words w
 
 -- What a run did over the words that were given: it did the script's lines, or all events of a generated run, or nothing.
-pub record Ran (outcome : Status) (given : List (List ℕ)) (WasDone : List Done → Type 0) (before now : Streams) : Type 0 where
-  pub replays : given ≡ program_words Replay → Replayed script_lines (Run outcome) (λ deeds. WasDone (done_in deeds)) before.left now.left before.taken now.taken
+pub record Ran (outcome : Status) (given : List (List ℕ)) (WasDone : List StepRecord → Type 0) (before now : Streams) : Type 0 where
+  pub replays : given ≡ program_words Replay → Replayed script_lines (Run outcome) (λ trace. WasDone (done_in trace)) before.left now.left before.taken now.taken
   pub generates : (seed count : ℕ) → AreInRange (Generate seed count) → given ≡ program_words (Generate seed count) → Generated outcome seed count WasDone before.taken now.taken
   pub nothing : AreNone given → WasDone []
 
 -- why a run over the words that were given ends so
 pub record EndsRun (outcome : Status) (given : List (List ℕ)) (before now : Streams) : Type 0 where
-  -- Done, Script and TooLong come if and only if the bytes of the script say so, and only a fault of a stream and lack of memory hinder them
+  -- StepRecord, Script and TooLong come if and only if the bytes of the script say so, and only a fault of a stream and lack of memory hinder them
   pub exact : given ≡ program_words Replay → IfSome before.left (λ bytes. IsByScript (Run outcome) → (s : Status) → (outcome ≡ s) ↔ EndsAs script_grammar s bytes)
   pub words : (outcome ≡ status.Words) ↔ AreNone given
   pub untouched : outcome ≡ status.Words → now ≡ before

@@ -11,8 +11,8 @@ use Rattle.ledger_moves.specs.Histories.{History, Unforged}
 use Rattle.bench.specs.Benches.{Nodes, BenchOf, Stands}
 use Rattle.bench.specs.Steps.{LeftFor, after_stop}
 use Rattle.script_replay.specs.Chains.{DidEvents, SceneOf}
-use Rattle.line_extensions.specs.Deeds.{Done}
-use Rattle.script_replay.specs.Deeds.{ledger_by}
+use Rattle.line_extensions.specs.Trace.{StepRecord}
+use Rattle.script_replay.specs.Trace.{ledger_by}
 
 -- at each moment each device's accepted mail was franked, and what it franked was bought
 abbrev pub IsAllPaid : Ledger → Type 0
@@ -32,9 +32,9 @@ module _ (n : Nodes) where
     pub paid : IsAllPaid L
     pub left : LeftFor n τ bench bench (Begin ∷ L)
 
-  -- So it is at each moment of the deeds; and what a stop within an event leaves represents the ledger before it with the commit of the event,
+  -- So it is at each moment of the steps; and what a stop within an event leaves represents the ledger before it with the commit of the event,
   -- if it has one, open.
-  abbrev pub Throughout : Tariff → Ledger → (old new : SceneOf n) (deeds : List Done) → DidEvents n old new deeds → Type 0
+  abbrev pub Throughout : Tariff → Ledger → (old new : SceneOf n) (trace : List StepRecord) → DidEvents n old new trace → Type 0
   Throughout τ L old new [] did = IsBetween τ old.bench L
   Throughout τ L old new (d ∷ rest) did =
       IsBetween τ old.bench L

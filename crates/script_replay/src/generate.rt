@@ -9,7 +9,7 @@ ghost use Rattle.bench.specs.Outside.{outside};
 ghost use Rattle.generator.specs.Given.{NeedsNoStream};
 ghost use Rattle.script_text.specs.Summaries.{tally_of};
 ghost use Rattle.script_replay.specs.Chains.{scene_of, DidEvent, DidEvents};
-ghost use Rattle.line_extensions.specs.Deeds.{Done};
+ghost use Rattle.line_extensions.specs.Trace.{StepRecord};
 ghost use Rattle.script_replay.specs.Generated.{EndsWith, Generated, InTheMidst, summary_line};
 ghost use Rattle.script_replay.specs.Run.{Leaves};
 ghost use Rattle.line_runs.specs.Turns.{Ended};
@@ -21,9 +21,9 @@ use crate::steps::OnBench;
 use bench::{BenchOver, HasNodes};
 use bench_base::events::{Event, Reply};
 use bench_base::stream::{Sink, Source};
-use line_extensions::Stepper;
 use generator::Generator;
 use generator::laws::{all_whole, few_events, no_streams, only_debits_given};
+use line_extensions::Stepper;
 use line_runs::status::Status;
 use nv_model::{Fuse, Nv};
 use script_text::{Summary, write_summary};
@@ -45,7 +45,7 @@ fn count_event<M: Fuse + Drop, N: Nv, R: Source, P: Sink>(
     requires room { length (bench_of bench.old).messages < MOST_MESSAGES }
     requires few { summary.old.events < 2 ^ 32 - 1 }
     ensures ready { IsReady (bench_of bench.new) }
-    ensures did { (d : Done) × (d.event ≡ event.now) × DidEvent ⟦<BenchOver<M, N> as HasNodes>⟧.nodes
+    ensures did { (d : StepRecord) × (d.event ≡ event.now) × DidEvent ⟦<BenchOver<M, N> as HasNodes>⟧.nodes
         (scene_of R.Source P.Sink bench.old rates.old printer.old)
         (scene_of R.Source P.Sink bench.new rates.new printer.new) d
         × ((replies : List Reply) → summary.old ≡ tally_of replies

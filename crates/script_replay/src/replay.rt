@@ -1,8 +1,8 @@
 //! The lines of a script that are events of the bench, and no others.
 ghost use Rattle.std.specs.Prelude.{length};
 ghost use Rattle.bench.specs.Benches.{IsReady};
-ghost use Rattle.script_replay.specs.Chains.{scene_of, SceneOver, DidDeeds};
-ghost use Rattle.line_extensions.specs.Deeds.{Deed};
+ghost use Rattle.script_replay.specs.Chains.{scene_of, SceneOver, DidTrace};
+ghost use Rattle.line_extensions.specs.Trace.{TraceStep};
 ghost use Rattle.script_replay.specs.Run.{Leaves};
 ghost use Rattle.line_extensions.specs.Scripts.{script_lines};
 ghost use Rattle.script_replay.specs.ScriptLaws.{are_done};
@@ -11,7 +11,7 @@ ghost use Rattle.line_extensions.specs.ScriptLaws.{script_fits};
 use crate::run::do_line;
 use bench::{BenchOver, HasNodes};
 use bench_base::stream::{Sink, Source};
-use line_runs::Clerk;
+use line_runs::LineHandler;
 use line_runs::status::SideStatus;
 use nv_model::{Fuse, Nv};
 use std::alloc::Global;
@@ -22,8 +22,8 @@ pub(crate) struct Replay<M, N, R, P> {
     of: PhantomData<(M, N, R, P)>,
 }
 
-impl<M: Fuse + Drop, N: Nv, R: Source, P: Sink> Clerk for Replay<M, N, R, P> {
-    type Desk = ();
+impl<M: Fuse + Drop, N: Nv, R: Source, P: Sink> LineHandler for Replay<M, N, R, P> {
+    type Extension = ();
 
     type Bench = BenchOver<M, N>;
 
@@ -39,11 +39,11 @@ impl<M: Fuse + Drop, N: Nv, R: Source, P: Sink> Clerk for Replay<M, N, R, P> {
 
     ghost used = { λ w. length w.bench.messages };
 
-    ghost Deed = { Deed };
+    ghost TraceStep = { TraceStep };
 
     ghost lines = { script_lines };
 
-    ghost Does = { DidDeeds ⟦<BenchOver<M, N> as HasNodes>⟧.nodes };
+    ghost Does = { DidTrace ⟦<BenchOver<M, N> as HasNodes>⟧.nodes };
 
     ghost Leaves = { λ s. Leaves s };
 

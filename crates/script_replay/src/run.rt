@@ -5,9 +5,9 @@ ghost use Rattle.bench_base.specs.Ranges.{IsWholeEvent};
 ghost use Rattle.bench_base.specs.declared.events.Event.TheVariants as ends;
 ghost use Rattle.bench.specs.declared.benches.TheConstants.{MOST_MESSAGES};
 ghost use Rattle.bench.specs.Benches.{IsReady, bench_of};
-ghost use Rattle.script_replay.specs.Chains.{scene_of, DidEvent, DidDeeds};
-ghost use Rattle.script_text.specs.Told.{IsWholeReply};
-ghost use Rattle.line_extensions.specs.Deeds.{Done, line_of};
+ghost use Rattle.script_replay.specs.Chains.{scene_of, DidEvent, DidTrace};
+ghost use Rattle.script_text.specs.ReplyRanges.{IsWholeReply};
+ghost use Rattle.line_extensions.specs.Trace.{StepRecord, line_of};
 ghost use Rattle.line_runs.specs.Runs.{Replayed};
 ghost use Rattle.line_runs.specs.Turns.{LineEnd, Reported, Ended};
 ghost use Rattle.script_replay.specs.Run.{DidRun, Leaves};
@@ -21,8 +21,8 @@ use crate::steps::OnBench;
 use bench::{Bench, BenchOver, HasNodes};
 use bench_base::events::{Event, Reply};
 use bench_base::stream::{Sink, Source};
-use line_extensions::{Stepper, ended_by, put_line};
 use ledger_laws::laws::histories;
+use line_extensions::{Stepper, ended_by, put_line};
 use line_runs::run_lines;
 use line_runs::status::{SideStatus, Status};
 use nv_model::{Fuse, Nv};
@@ -43,7 +43,7 @@ fn do_event<K: Sink, M: Fuse + Drop, N: Nv, R: Source, P: Sink>(
     requires ready { IsReady (bench_of bench.old) }
     requires room { length (bench_of bench.old).messages < MOST_MESSAGES }
     ensures ready { IsReady (bench_of bench.new) }
-    ensures done { result ≢ Some (SideStatus.Run Status.Memory) → (d : Done) × (d.event ≡ event.now)
+    ensures done { result ≢ Some (SideStatus.Run Status.Memory) → (d : StepRecord) × (d.event ≡ event.now)
         × DidEvent ⟦<BenchOver<M, N> as HasNodes>⟧.nodes
         (scene_of R.Source P.Sink bench.old rates.old printer.old)
         (scene_of R.Source P.Sink bench.new rates.new printer.new) d × IsWholeReply d.reply
@@ -82,7 +82,7 @@ pub(crate) fn do_line<K: Sink, M: Fuse + Drop, N: Nv, R: Source, P: Sink>(
     requires ready { IsReady (bench_of bench.old) }
     requires room { length (bench_of bench.old).messages < MOST_MESSAGES }
     ensures ready { IsReady (bench_of bench.new) }
-    ensures done { LineEnd script_lines (DidDeeds ⟦<BenchOver<M, N> as HasNodes>⟧.nodes)
+    ensures done { LineEnd script_lines (DidTrace ⟦<BenchOver<M, N> as HasNodes>⟧.nodes)
         (λ s. Leaves s) number line.now result
         (scene_of R.Source P.Sink bench.old rates.old printer.old)
         (scene_of R.Source P.Sink bench.new rates.new printer.new) (K.taken report.old) (K.taken report.new) }
@@ -112,7 +112,7 @@ fn replay<S: BufSource, K: Sink, M: Fuse + Drop, N: Nv, R: Source, P: Sink>(
     requires no_messages { (bench_of bench.old).messages ≡ [] }
     ensures ready { IsReady (bench_of bench.new) }
     ensures ran { Replayed script_lines (SideStatus.Run result)
-        (Ended (DidDeeds ⟦<BenchOver<M, N> as HasNodes>⟧.nodes) (λ s. Leaves s) (SideStatus.Run result)
+        (Ended (DidTrace ⟦<BenchOver<M, N> as HasNodes>⟧.nodes) (λ s. Leaves s) (SideStatus.Run result)
         (scene_of R.Source P.Sink bench.old rates.old printer.old)
         (scene_of R.Source P.Sink bench.new rates.new printer.new)) (S.left script.old) (S.left script.new)
         (K.taken report.old) (K.taken report.new) }
@@ -127,7 +127,7 @@ fn replay<S: BufSource, K: Sink, M: Fuse + Drop, N: Nv, R: Source, P: Sink>(
         alloc, script, &mut desk, bench, rates, printer, report,
     ) {
         SideStatus::Run(status) => status,
-        // No deed of a script of events is broken off.
+        // No step of a script of events is broken off.
         SideStatus::Stopped => unreachable!(),
     }
 }
@@ -153,7 +153,7 @@ pub fn run<S: BufSource, R: Source, K: Sink, P: Sink, N: Nv + Drop>(
     requires ready { IsReady (bench_of bench.old) }
     ensures ready { IsReady (bench_of bench.new) }
 
-    // The deeds, and the status by them: each status has its row in `EndsIn` and in `EndsWith`.
+    // The steps, and the status by them: each status has its row in `EndsIn` and in `EndsWith`.
     ensures ran { Ran result (map string_bytes words.now)
         (DidRun ⟦<Bench<N> as HasNodes>⟧.nodes
         (scene_of R.Source P.Sink bench.old rates.old printer.old)

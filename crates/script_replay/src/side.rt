@@ -9,8 +9,8 @@ ghost use Rattle.script_replay.specs.Streams.{streams_of};
 use crate::steps::OnBench;
 use bench::{Bench, HasNodes};
 use bench_base::stream::{Sink, Source};
-use line_extensions::{AtBench, Desk};
 use ledger_laws::laws::histories;
+use line_extensions::{AtBench, Extension};
 use line_runs::run_lines;
 use line_runs::status::{SideStatus, Status};
 use nv_model::{Fused, Nv};
@@ -40,7 +40,7 @@ fn is_called(words: &[String], word: &str) -> bool
 }
 
 /// Does a script whose lines are events of the bench or a desk's own, as `run` does one of events, where the words are this one.
-pub fn run_side<D: Desk, S: BufSource, R: Source, K: Sink, P: Sink, N: Nv + Drop>(
+pub fn run_side<D: Extension, S: BufSource, R: Source, K: Sink, P: Sink, N: Nv + Drop>(
     alloc: Global,
     word: &str,
     words: &[String],
@@ -53,16 +53,16 @@ pub fn run_side<D: Desk, S: BufSource, R: Source, K: Sink, P: Sink, N: Nv + Drop
 ) -> SideStatus
     requires ready { IsReady (bench_of bench.old) }
     ensures ready { IsReady (bench_of bench.new) }
-    ensures ran { RanSide ⟦<D as Desk>⟧ word.now result (map string_bytes words.now)
-        (DidSide ⟦<Bench<N> as HasNodes>⟧.nodes ⟦<D as Desk>⟧
+    ensures ran { RanSide ⟦<D as Extension>⟧ word.now result (map string_bytes words.now)
+        (DidSide ⟦<Bench<N> as HasNodes>⟧.nodes ⟦<D as Extension>⟧
         (world (scene_of R.Source P.Sink bench.old rates.old printer.old) desk.old)
         (world (scene_of R.Source P.Sink bench.new rates.new printer.new) desk.new) result)
         (streams_of S.Source K.Sink R.Source P.Sink script.old report.old rates.old printer.old)
         (streams_of S.Source K.Sink R.Source P.Sink script.new report.new rates.new printer.new) }
-    ensures ends { EndsSide ⟦<D as Desk>⟧ word.now result (map string_bytes words.now)
+    ensures ends { EndsSide ⟦<D as Extension>⟧ word.now result (map string_bytes words.now)
         (streams_of S.Source K.Sink R.Source P.Sink script.old report.old rates.old printer.old)
         (streams_of S.Source K.Sink R.Source P.Sink script.new report.new rates.new printer.new) }
-    ensures completes { CompletesSide ⟦<D as Desk>⟧ word.now result (map string_bytes words.now)
+    ensures completes { CompletesSide ⟦<D as Extension>⟧ word.now result (map string_bytes words.now)
         (streams_of S.Source K.Sink R.Source P.Sink script.old report.old rates.old printer.old)
         (streams_of S.Source K.Sink R.Source P.Sink script.new report.new rates.new printer.new) }
 {

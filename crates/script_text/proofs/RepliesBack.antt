@@ -9,7 +9,7 @@ use Rattle.bench_base.specs.declared.events.Reply.{Reply}
 use Rattle.bench_base.specs.declared.events.Reply.TheVariants as reply
 use Rattle.bench_base.specs.declared.events.DevView.{DevView}
 use Rattle.script_text.specs.Texts.{verdict_word, pending_word, flight_words, reply_words, text_of}
-use Rattle.script_text.specs.Told.{IsFlight, IsWholeReply, told}
+use Rattle.script_text.specs.ReplyRanges.{IsFlight, IsWholeReply, told}
 use Rattle.script_words.specs.Words.{words_in}
 use Rattle.script_text.proofs.EventsBack.{node_is}
 use Rattle.script_text.proofs.ReadBack.{same, at, first_byte, number_in, device_in, node_in, hex_in, kind_in, again_in, signed_in, number_again, word_again, small_again, device_again, node_again, hex_again, again_again, signed_again}

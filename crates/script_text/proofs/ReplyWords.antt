@@ -32,7 +32,7 @@ use Rattle.bench_base.specs.declared.events.Reply.TheVariants as reply
 use Rattle.bench_base.specs.Ranges.{IsDay}
 use Rattle.script_text.specs.Refusals.{Part, said, of_number, of_short, of_sum, of_customer, of_day, of_kind, of_phase, of_state, of_cause, of_fault, part_word, phase_word, state_word, unread_word, fault_word, dev_parts, centre_parts, rate_parts, host_parts, scan_parts, dev_words, centre_words, host_words, scan_words}
 use Rattle.script_text.specs.Texts.{verdict_word, flagged_word, pending_word, flight_words, reply_words, text_of}
-use Rattle.script_text.specs.Told.{AreWhole, IsFlight, IsWholeReply}
+use Rattle.script_text.specs.ReplyRanges.{AreWhole, IsFlight, IsWholeReply}
 use Rattle.script_words.specs.Words.{words_in, joined, spaced, new_word}
 use Rattle.script_text.proofs.EventWords.{dash, literal, is_printed, number, word, class_word, customer, device, node, digits, kind}
 use Rattle.script_words.proofs.Numbers.{Printed-decimal}

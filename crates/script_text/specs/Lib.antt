@@ -6,4 +6,4 @@ pub mod Reading
 pub mod Refusals
 pub mod Summaries
 pub mod Texts
-pub mod Told
+pub mod ReplyRanges

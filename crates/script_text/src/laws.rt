@@ -4,7 +4,7 @@ ghost use Rattle.bench_base.specs.Ranges.{IsWholeEvent};
 ghost use Rattle.bench_base.specs.declared.events.Event.{Event};
 ghost use Rattle.bench_base.specs.declared.events.Reply.{Reply};
 ghost use Rattle.script_text.specs.Texts.{text_of};
-ghost use Rattle.script_text.specs.Told.{IsWholeReply, told};
+ghost use Rattle.script_text.specs.ReplyRanges.{IsWholeReply, told};
 ghost use Rattle.script_text.specs.Grammar.{Spells, IsSkipped};
 
 /// A line spells at most one whole event.

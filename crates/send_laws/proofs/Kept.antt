@@ -7,7 +7,7 @@ use Rattle.bench_base.specs.declared.ledger.Entry.{Entry}
 use Rattle.bench_base.specs.Jobs.{Job, job_of}
 use Rattle.bench_base.specs.Ledger.{Ledger, counted}
 use Rattle.bench_base.specs.Plans.{Plan}
-use Rattle.bench_base.specs.Replies.{Told}
+use Rattle.bench_base.specs.Replies.{ReplyClass}
 use Rattle.bench_base.proofs.Facts.{kept_first}
 use Rattle.node_acts.specs.Plans.{after_told}
 use Rattle.scan_laws.proofs.Entries.{kept_told, counted_kept}
@@ -28,5 +28,5 @@ pub ordered_entry : (j a : ℕ) (k : Entry) (H : Ledger) → ordered_postage j (
 ordered_entry j a k H is = counted_kept (λ C. ordered_postage j C ≡ Some a) (ordered_more j a) k H is
 
 -- after a reply to a plan
-pub ordered_kept : (j a : ℕ) (plan : Plan) (t : Told) (H : Ledger) → ordered_postage j (counted H) ≡ Some a → ordered_postage j (counted (after_told plan t H)) ≡ Some a
+pub ordered_kept : (j a : ℕ) (plan : Plan) (t : ReplyClass) (H : Ledger) → ordered_postage j (counted H) ≡ Some a → ordered_postage j (counted (after_told plan t H)) ≡ Some a
 ordered_kept j a plan t H is = kept_told (λ K. ordered_postage j (counted K) ≡ Some a) (ordered_entry j a) plan t H is

@@ -9,7 +9,7 @@ use Rattle.bench_base.specs.declared.events.Event.TheVariants as ev
 use Rattle.bench_base.specs.declared.ledger.Entry.TheVariants.{Begin}
 use Rattle.bench_base.specs.declared.refusals.MarkFault.{MarkFault}
 use Rattle.bench_base.specs.Ledger.{Ledger, IsReleased, counted}
-use Rattle.bench_base.specs.Replies.{told_by}
+use Rattle.bench_base.specs.Replies.{class_of}
 use Rattle.bench_base.specs.Rules.{todays_rules}
 use Rattle.bench_base.specs.Scans.{accepted}
 use Rattle.bench_base.proofs.Facts.{some_none}
@@ -19,19 +19,19 @@ use Rattle.nv_model.specs.declared.nv.Nv as nv
 use Rattle.node_acts.specs.RowList.{row_at, row_of, commits_at, put}
 use Rattle.node_acts.specs.RowLaws.{put_long, put_other}
 use Rattle.script_text.specs.Texts.{text_of}
-use Rattle.line_runs.specs.Deeds.{Reads}
-use Rattle.line_extensions.specs.Deeds.{Done, Skipped, Did}
+use Rattle.line_runs.specs.Trace.{Reads}
+use Rattle.line_extensions.specs.Trace.{StepRecord, Skipped, Did}
 use Rattle.line_extensions.specs.Desks.{side_lines}
 use Rattle.line_extensions.specs.Events.{IsLineOf}
-use Rattle.line_extensions.specs.SideDeeds.{SideDeed, Plain, Own, Broken, steps_of}
+use Rattle.line_extensions.specs.SideTrace.{SideStep, Plain, Own, Broken, steps_of}
 use Rattle.ledger_moves.specs.Moves.{plan}
 use Rattle.ledger_moves.specs.Tariffs.{Tariff}
 use Rattle.scan_laws.specs.Acceptances.{EachAccepted, IsScanOf}
 use Rattle.scan_laws.proofs.Entries.{accepted_kept, accepted_entry, released_kept, released_entry, each_of, of_each, begin_each, told_each}
 use Rattle.scan_laws.proofs.Plans.{plan_brings}
-use Rattle.run_laws.specs.Deeds.{AllMoved}
+use Rattle.run_laws.specs.Trace.{AllMoved}
 use Rattle.run_laws.proofs.Going.{all_moved, first_moved, rest_moved, after_both, scanned as accepted_by_scan}
-use Rattle.script_replay.specs.Deeds.{ledger_by, ledger_after, RunWhile, AreUnforged}
+use Rattle.script_replay.specs.Trace.{ledger_by, ledger_after, RunWhile, AreUnforged}
 use Rattle.script_replay.specs.Run.{Unforged, Moves}
 use Rattle.spoil_claims.specs.Answers.{IsTold, IsCreditedNow, IsScanned, IsNewTold, IsClaimTold, IsAnswered, IsNewCut, IsClaimCut, IsCutShort, AreAnswered, IsCutCredit}
 use Rattle.spoil_claims.specs.ClaimLines.{IsScan, IsClaimLine}
@@ -151,20 +151,20 @@ begun rows L b = record {
 
 module _ (τ : Tariff) where
   -- whatever reply it gets, where a scan above 3,000,000,000 is that of a claim
-  moved : (rows : Claims) (H : Ledger) (d : Done) → ((e p n : ℕ) → IsScanOf e p n d.event → Reserves rows e p n) → AreBacked rows H → AreBacked rows (ledger_by τ H d)
+  moved : (rows : Claims) (H : Ledger) (d : StepRecord) → ((e p n : ℕ) → IsScanOf e p n d.event → Reserves rows e p n) → AreBacked rows H → AreBacked rows (ledger_by τ H d)
   moved rows H d may b = record {
     reserved = of_each (Reserves rows) (ledger_by τ H d)
-        (told_each (Reserves rows) (plan τ todays_rules H d.event d.text) (told_by d.reply) H (plan_brings (Reserves rows) H τ d.event d.text may) (each_of (Reserves rows) H b.reserved));
+        (told_each (Reserves rows) (plan τ todays_rules H d.event d.text) (class_of d.reply) H (plan_brings (Reserves rows) H τ d.event d.text may) (each_of (Reserves rows) H b.reserved));
     credited = λ c x k is.
         let was = b.credited c x k is in
         record {
-          released = released_kept x.mark (plan τ todays_rules H d.event d.text) (told_by d.reply) H was.released;
-          accepted = accepted_kept k.device k.piece (scan_number c) (plan τ todays_rules H d.event d.text) (told_by d.reply) H was.accepted;
+          released = released_kept x.mark (plan τ todays_rules H d.event d.text) (class_of d.reply) H was.released;
+          accepted = accepted_kept k.device k.piece (scan_number c) (plan τ todays_rules H d.event d.text) (class_of d.reply) H was.accepted;
         };
   }
 
   -- of a line that is left to the bench
-  pub passed : (rows : Claims) (H : Ledger) (line : List ℕ) (d : Done) → IsLineOf d.event line → ((own : ClaimLine) → IsClaimLine own line → ⊥) → AreBacked rows H → AreBacked rows (ledger_by τ H d)
+  pub passed : (rows : Claims) (H : Ledger) (line : List ℕ) (d : StepRecord) → IsLineOf d.event line → ((own : ClaimLine) → IsClaimLine own line → ⊥) → AreBacked rows H → AreBacked rows (ledger_by τ H d)
   passed rows H line d is none b = moved rows H d (λ e p n scan gt. absurd (none Reserved (n, gt, by_event e p n scan))) b
     where
       by_event : (e p n : ℕ) → IsScanOf e p n d.event → IsScan n line
@@ -184,7 +184,7 @@ module _ (τ : Tariff) where
   no_message n m k a is = cc
 
   -- of the scan of a claim
-  claim_scanned : (rows : Claims) (x : ClaimRow) (H : Ledger) (d : Done) → IsHere rows x → d.event ≡ ev.ScanHex (scan_number x.claim) x.mark → AreBacked rows H → AreBacked rows (ledger_by τ H d)
+  claim_scanned : (rows : Claims) (x : ClaimRow) (H : Ledger) (d : StepRecord) → IsHere rows x → d.event ≡ ev.ScanHex (scan_number x.claim) x.mark → AreBacked rows H → AreBacked rows (ledger_by τ H d)
   claim_scanned rows x H d here event b = moved rows H d may b
     where
       may : (e p n : ℕ) → IsScanOf e p n d.event → Reserves rows e p n
@@ -204,23 +204,23 @@ module _ (τ : Tariff) where
   -- == an own line ==
 
   -- the piece of an accepted claim was used up
-  used_up : (H : Ledger) (x : ClaimRow) (d : Done) → d.event ≡ ev.ScanHex (scan_number x.claim) x.mark → IsAccepted d.reply → Unforged H d.event → Moves τ H d
+  used_up : (H : Ledger) (x : ClaimRow) (d : StepRecord) → d.event ≡ ev.ScanHex (scan_number x.claim) x.mark → IsAccepted d.reply → Unforged H d.event → Moves τ H d
       → (k : Mark) × (mark_of x.mark ≡ Some k) × IsUsedUp x.claim x k (ledger_by τ H d)
   used_up H x d event accepts unforged moves =
       let is = accepted_by_scan τ (scan_number x.claim) x.mark d event accepts H unforged moves in
       (is.mark, read_as x.mark is.mark is.code is.reads, record { released = is.released; accepted = is.accepted })
 
   module _ (rows : Claims) (H : Ledger) (b : AreBacked rows H) where
-    nothing_done : (steps : List Done) (after : Claims) → steps ≡ [] → after ≡ rows → AreBacked after (ledger_after τ H steps)
-    nothing_done steps after none rests = subst (λ (r : Claims). AreBacked r (ledger_after τ H steps)) (sym rests) (subst (λ (s : List Done). AreBacked rows (ledger_after τ H s)) (sym none) b)
+    nothing_done : (steps : List StepRecord) (after : Claims) → steps ≡ [] → after ≡ rows → AreBacked after (ledger_after τ H steps)
+    nothing_done steps after none rests = subst (λ (r : Claims). AreBacked r (ledger_after τ H steps)) (sym rests) (subst (λ (s : List StepRecord). AreBacked rows (ledger_after τ H s)) (sym none) b)
 
-    one_scan : (x : ClaimRow) (steps : List Done) (d : Done) → IsHere rows x → steps ≡ d ∷ [] → d.event ≡ ev.ScanHex (scan_number x.claim) x.mark → AreBacked rows (ledger_after τ H steps)
-    one_scan x steps d here only event = subst (λ (s : List Done). AreBacked rows (ledger_after τ H s)) (sym only) (claim_scanned rows x H d here event b)
+    one_scan : (x : ClaimRow) (steps : List StepRecord) (d : StepRecord) → IsHere rows x → steps ≡ d ∷ [] → d.event ≡ ev.ScanHex (scan_number x.claim) x.mark → AreBacked rows (ledger_after τ H steps)
+    one_scan x steps d here only event = subst (λ (s : List StepRecord). AreBacked rows (ledger_after τ H s)) (sym only) (claim_scanned rows x H d here event b)
 
-    told : (text : List ℕ) (steps : List Done) (texts : List (List ℕ)) (after : Claims) → IsTold text rows steps texts after → AreBacked after (ledger_after τ H steps)
+    told : (text : List ℕ) (steps : List StepRecord) (texts : List (List ℕ)) (after : Claims) → IsTold text rows steps texts after → AreBacked after (ledger_after τ H steps)
     told text steps texts after is = nothing_done steps after is.none is.rests
 
-    scanned : (x : ClaimRow) (steps : List Done) (texts : List (List ℕ)) (after : Claims) → AllMoved τ H steps → IsScanned x rows steps texts after → AreBacked after (ledger_after τ H steps)
+    scanned : (x : ClaimRow) (steps : List StepRecord) (texts : List (List ℕ)) (after : Claims) → AllMoved τ H steps → IsScanned x rows steps texts after → AreBacked after (ledger_after τ H steps)
     scanned x steps texts after did is = by_reply is.did
       where
         after_scan : AreBacked rows (ledger_after τ H steps)
@@ -229,17 +229,17 @@ module _ (τ : Tariff) where
         by_reply : ((IsAccepted is.scan.reply × IsCreditedNow x rows texts after) ⊎ ((IsAccepted is.scan.reply → ⊥) × (texts ≡ text_of is.scan.reply ∷ []) × (after ≡ rows))) → AreBacked after (ledger_after τ H steps)
         by_reply (inl (accepts, inl worn)) = subst (λ (r : Claims). AreBacked r (ledger_after τ H steps)) (sym worn.2) after_scan
         by_reply (inl (accepts, inr now)) =
-            let one : AllMoved τ H (is.scan ∷ []) = subst (λ (s : List Done). AllMoved τ H s) is.only did in
+            let one : AllMoved τ H (is.scan ∷ []) = subst (λ (s : List StepRecord). AllMoved τ H s) is.only did in
             let used = used_up H x is.scan is.event accepts one.0 one.1 in
             subst (λ (r : Claims). AreBacked r (ledger_after τ H steps)) (sym now.2)
-            (subst (λ (s : List Done). AreBacked (put rows (x.claim - 1) (as_credited x)) (ledger_after τ H s)) (sym is.only)
+            (subst (λ (s : List StepRecord). AreBacked (put rows (x.claim - 1) (as_credited x)) (ledger_after τ H s)) (sym is.only)
             (credited_now rows x used.0 (ledger_by τ H is.scan) is.claim used.1 used.2 (claim_scanned rows x H is.scan is.claim is.event b)))
         by_reply (inr other) = subst (λ (r : Claims). AreBacked r (ledger_after τ H steps)) (sym other.2) after_scan
 
     new_inside : (x : ClaimRow) → IsHere (put rows (x.claim - 1) x) x → x.claim - 1 < length rows
     new_inside x here = subst (λ (l : ℕ). x.claim - 1 < l) (put_long rows (x.claim - 1) x) (inside (put rows (x.claim - 1) x) x here)
 
-  module _ (rows : Claims) (H : Ledger) (b : AreBacked rows H) (steps : List Done) (did : AllMoved τ H steps) (after : Claims) where
+  module _ (rows : Claims) (H : Ledger) (b : AreBacked rows H) (steps : List StepRecord) (did : AllMoved τ H steps) (after : Claims) where
     claim_told : (texts : List (List ℕ)) (o : Option ClaimRow) (c w : ℕ) (mark : List ℕ) → kept rows c ≡ o → IsClaimTold o c w mark rows steps texts after → AreBacked after (ledger_after τ H steps)
     claim_told texts (Some x) c w mark is (inl known) = either_any x.credited (λ again. told rows H b _ steps texts after again.told) (λ scans. scanned rows H b x steps texts after did scans) known.1
     claim_told texts (Some x) c w mark is (inr other) = told rows H b _ steps texts after other.1
@@ -290,32 +290,32 @@ module _ (τ : Tariff) where
     | inr le ↦ subst (λ (r : Claims). AreBacked r H) (sym (outside rows x le)) b
   ]
 
-  torn_credit : (rows : Claims) (y : ClaimRow) (H : Ledger) (steps : List Done) → AllMoved τ H steps → IsCutCredit y rows steps → AreBacked rows (ledger_after τ H steps) → AreBacked (put rows (y.claim - 1) (as_credited y)) (ledger_after τ H steps)
+  torn_credit : (rows : Claims) (y : ClaimRow) (H : Ledger) (steps : List StepRecord) → AllMoved τ H steps → IsCutCredit y rows steps → AreBacked rows (ledger_after τ H steps) → AreBacked (put rows (y.claim - 1) (as_credited y)) (ledger_after τ H steps)
   torn_credit rows y H steps did cut b =
-      let one : AllMoved τ H (cut.scan ∷ []) = subst (λ (s : List Done). AllMoved τ H s) cut.only did in
+      let one : AllMoved τ H (cut.scan ∷ []) = subst (λ (s : List StepRecord). AllMoved τ H s) cut.only did in
       let used = used_up H y cut.scan cut.event cut.accepted one.0 one.1 in
-      let now : IsUsedUp y.claim y used.0 (ledger_after τ H steps) = subst (λ (s : List Done). IsUsedUp y.claim y used.0 (ledger_after τ H s)) (sym cut.only) used.2 in
+      let now : IsUsedUp y.claim y used.0 (ledger_after τ H steps) = subst (λ (s : List StepRecord). IsUsedUp y.claim y used.0 (ledger_after τ H s)) (sym cut.only) used.2 in
       credited_now rows y used.0 (ledger_after τ H steps) cut.claim used.1 now b
 
-  torn_by : (rows : Claims) (x : ClaimRow) (H : Ledger) (steps : List Done) → AllMoved τ H steps → IsCut x rows steps → AreBacked rows (ledger_after τ H steps) → AreBacked (put rows (x.claim - 1) x) (ledger_after τ H steps)
+  torn_by : (rows : Claims) (x : ClaimRow) (H : Ledger) (steps : List StepRecord) → AllMoved τ H steps → IsCut x rows steps → AreBacked rows (ledger_after τ H steps) → AreBacked (put rows (x.claim - 1) x) (ledger_after τ H steps)
   torn_by rows x H steps did (inl none) b = torn_open rows x (ledger_after τ H steps) none.0 none.1 b
   torn_by rows x H steps did (inr (y, is, cut)) b =
       subst (λ (z : ClaimRow). AreBacked (put rows (z.claim - 1) z) (ledger_after τ H steps)) (sym is) (torn_credit rows y H steps did cut b)
 
   -- the claims with a torn commit are backed too
-  pub torn_backed : (rows : Claims) (x : ClaimRow) (H : Ledger) (all : List Done) → AreUnforged τ Unforged H all → RunWhile τ Unforged (Moves τ) H all → IsCutAfter x rows all → AreBacked rows (ledger_after τ H all)
+  pub torn_backed : (rows : Claims) (x : ClaimRow) (H : Ledger) (all : List StepRecord) → AreUnforged τ Unforged H all → RunWhile τ Unforged (Moves τ) H all → IsCutAfter x rows all → AreBacked rows (ledger_after τ H all)
       → AreBacked (put rows (x.claim - 1) x) (ledger_after τ H all)
   torn_backed rows x H all unforged run (before, steps, are, cut) b =
-      let did : AllMoved τ H (before ++ steps) = subst (λ (s : List Done). AllMoved τ H s) are (all_moved τ H all unforged run) in
-      let split : ledger_after τ (ledger_after τ H before) steps ≡ ledger_after τ H all = after_both τ H before steps ∙ ap (λ (s : List Done). ledger_after τ H s) (sym are) in
+      let did : AllMoved τ H (before ++ steps) = subst (λ (s : List StepRecord). AllMoved τ H s) are (all_moved τ H all unforged run) in
+      let split : ledger_after τ (ledger_after τ H before) steps ≡ ledger_after τ H all = after_both τ H before steps ∙ ap (λ (s : List StepRecord). ledger_after τ H s) (sym are) in
       subst (λ (K : Ledger). AreBacked (put rows (x.claim - 1) x) K) split
       (torn_by rows x (ledger_after τ H before) steps (rest_moved τ H before steps did) cut (subst (λ (K : Ledger). AreBacked rows K) (sym split) b))
 
   -- == all lines ==
 
   module _ {N : Type 0} (g : nv.Ghosts N) where
-    backed_all : (rows : Claims) (H : Ledger) (deeds : List (SideDeed ClaimLine)) (after : Claims) → AreBacked rows H → AllByRecursion (Reads (side_lines (claims_desk g))) deeds → AreAnswered rows deeds after
-        → AllMoved τ H (steps_of deeds) → AreBacked after (ledger_after τ H (steps_of deeds))
+    backed_all : (rows : Claims) (H : Ledger) (trace : List (SideStep ClaimLine)) (after : Claims) → AreBacked rows H → AllByRecursion (Reads (side_lines (claims_desk g))) trace → AreAnswered rows trace after
+        → AllMoved τ H (steps_of trace) → AreBacked after (ledger_after τ H (steps_of trace))
     backed_all rows H [] after b reads answers did = subst (λ (r : Claims). AreBacked r H) (sym answers) b
     backed_all rows H (Plain (Skipped line) ∷ rest) after b reads answers did = backed_all rows H rest after b reads.1 answers did
     backed_all rows H (Plain (Did line d) ∷ rest) after b reads answers did =
@@ -328,7 +328,7 @@ module _ (τ : Tariff) where
         (backed_all answers.0 (ledger_after τ H steps) rest after (own_cut rows H b steps (first_moved τ H steps (steps_of rest) did) answers.0 own answers.1) reads.1 answers.2 (rest_moved τ H steps (steps_of rest) did))
 
     -- WHAT WAS BACKED BEFORE A RUN IS BACKED AFTER IT
-    pub backed_after : (L : Ledger) (rows after : Claims) (deeds : List (SideDeed ClaimLine)) → AreBacked rows L → AllByRecursion (Reads (side_lines (claims_desk g))) deeds → AreAnswered rows deeds after
-        → AreUnforged τ Unforged (Begin ∷ L) (steps_of deeds) → RunWhile τ Unforged (Moves τ) (Begin ∷ L) (steps_of deeds) → AreBacked after (ledger_after τ (Begin ∷ L) (steps_of deeds))
-    backed_after L rows after deeds b reads answers unforged run =
-        backed_all rows (Begin ∷ L) deeds after (begun rows L b) reads answers (all_moved τ (Begin ∷ L) (steps_of deeds) unforged run)
+    pub backed_after : (L : Ledger) (rows after : Claims) (trace : List (SideStep ClaimLine)) → AreBacked rows L → AllByRecursion (Reads (side_lines (claims_desk g))) trace → AreAnswered rows trace after
+        → AreUnforged τ Unforged (Begin ∷ L) (steps_of trace) → RunWhile τ Unforged (Moves τ) (Begin ∷ L) (steps_of trace) → AreBacked after (ledger_after τ (Begin ∷ L) (steps_of trace))
+    backed_after L rows after trace b reads answers unforged run =
+        backed_all rows (Begin ∷ L) trace after (begun rows L b) reads answers (all_moved τ (Begin ∷ L) (steps_of trace) unforged run)

@@ -8,11 +8,11 @@ use Rattle.nv_model.specs.declared.nv.Nv as nv
 use Rattle.ledger_terms.specs.Editions.{Editions}
 use Rattle.ledger_moves.specs.Tariffs.{Tariff}
 use Rattle.run_laws.proofs.Going.{all_moved}
-use Rattle.line_runs.specs.Deeds.{Reads}
-use Rattle.line_extensions.specs.Deeds.{Done, Skipped, Did}
+use Rattle.line_runs.specs.Trace.{Reads}
+use Rattle.line_extensions.specs.Trace.{StepRecord, Skipped, Did}
 use Rattle.line_extensions.specs.Desks.{side_lines}
-use Rattle.line_extensions.specs.SideDeeds.{SideDeed, Plain, Own, Broken, steps_of}
-use Rattle.script_replay.specs.Deeds.{ledger_by, ledger_after, RunWhile}
+use Rattle.line_extensions.specs.SideTrace.{SideStep, Plain, Own, Broken, steps_of}
+use Rattle.script_replay.specs.Trace.{ledger_by, ledger_after, RunWhile}
 use Rattle.script_replay.specs.Run.{Unforged, Moves}
 use Rattle.script_replay.proofs.Whiles.{AreHistories, first_history, later_histories, first_while, later_while}
 use Rattle.spoil_claims.specs.Answers.{IsAnswered, AreAnswered}
@@ -27,15 +27,15 @@ use Rattle.spoil_claims.proofs.Backing.{begun, passed, own_told, own_cut}
 use Rattle.spoil_claims.proofs.Holding.{claims_hold}
 
 module _ (τ : Tariff) (today : Editions editions) where
-  tells_debits : (own : ClaimLine) (rows : Claims) (H : Ledger) (steps : List Done) (texts : List (List ℕ)) (after : Claims) → ClaimsHold rows H → IsAnswered own rows steps texts after
+  tells_debits : (own : ClaimLine) (rows : Claims) (H : Ledger) (steps : List StepRecord) (texts : List (List ℕ)) (after : Claims) → ClaimsHold rows H → IsAnswered own rows steps texts after
       → TellsDebits own rows H texts
   tells_debits (Claim c w mark) rows H steps texts after holds answer = tt
   tells_debits (Credits w) rows H steps texts after holds answer = answer.texts_are ∙ ap (λ (sum : ℕ). credits_text w sum ∷ []) (holds.sums w)
   tells_debits Reserved rows H steps texts after holds answer = tt
 
   module _ {N : Type 0} (g : nv.Ghosts N) where
-    follow : (rows : Claims) (H : Ledger) (deeds : List (SideDeed ClaimLine)) (after : Claims) → AreBacked rows H → AllByRecursion (Reads (side_lines (claims_desk g))) deeds
-        → (answers : AreAnswered rows deeds after) → RunWhile τ Unforged (Moves τ) H (steps_of deeds) → AreHistories τ H (steps_of deeds) → FollowLedger τ H rows deeds after answers
+    follow : (rows : Claims) (H : Ledger) (trace : List (SideStep ClaimLine)) (after : Claims) → AreBacked rows H → AllByRecursion (Reads (side_lines (claims_desk g))) trace
+        → (answers : AreAnswered rows trace after) → RunWhile τ Unforged (Moves τ) H (steps_of trace) → AreHistories τ H (steps_of trace) → FollowLedger τ H rows trace after answers
     follow rows H [] after b reads answers run are = claims_hold today τ H are rows b
     follow rows H (Plain (Skipped line) ∷ rest) after b reads answers run are = follow rows H rest after b reads.1 answers run are
     follow rows H (Plain (Did line d) ∷ rest) after b reads answers run are =
@@ -58,7 +58,7 @@ module _ (τ : Tariff) (today : Editions editions) where
     )
 
     -- from the beginning of a run on
-    pub follow_all : (L : Ledger) (rows after : Claims) (deeds : List (SideDeed ClaimLine)) → AreBacked rows L → AllByRecursion (Reads (side_lines (claims_desk g))) deeds
-        → (answers : AreAnswered rows deeds after) → RunWhile τ Unforged (Moves τ) (Begin ∷ L) (steps_of deeds) → AreHistories τ (Begin ∷ L) (steps_of deeds)
-        → FollowLedger τ (Begin ∷ L) rows deeds after answers
-    follow_all L rows after deeds b reads answers run are = follow rows (Begin ∷ L) deeds after (begun rows L b) reads answers run are
+    pub follow_all : (L : Ledger) (rows after : Claims) (trace : List (SideStep ClaimLine)) → AreBacked rows L → AllByRecursion (Reads (side_lines (claims_desk g))) trace
+        → (answers : AreAnswered rows trace after) → RunWhile τ Unforged (Moves τ) (Begin ∷ L) (steps_of trace) → AreHistories τ (Begin ∷ L) (steps_of trace)
+        → FollowLedger τ (Begin ∷ L) rows trace after answers
+    follow_all L rows after trace b reads answers run are = follow rows (Begin ∷ L) trace after (begun rows L b) reads answers run are

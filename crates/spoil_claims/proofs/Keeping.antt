@@ -14,7 +14,7 @@ use Rattle.row_store.specs.Seen.{ReadsAs, row_held, AllRead, seen_in}
 use Rattle.row_store.proofs.Kept.{row_read, some_held}
 use Rattle.spoil_claims.specs.Claims.{Claims, claim_at, kept, HasNoGaps, one_in, last_claim, credit_of, credits}
 use Rattle.spoil_claims.specs.Payload.{decoded, IsFit}
-use Rattle.spoil_claims.specs.Waits.{IsKept}
+use Rattle.spoil_claims.specs.Waits.{IsStored}
 use Rattle.spoil_claims.specs.declared.claim.ClaimRow.{ClaimRow}
 use Rattle.spoil_claims.specs.declared.claim.TheConstants.{CLAIM_CELLS}
 use Rattle.spoil_claims.proofs.Payloads.{decoded_fits}
@@ -37,7 +37,7 @@ module _ (cells : ℕ) (held : ℕ → Option Held) where
 
   -- a claim that is kept lies in its cell
   pub here_by : AllRead decoded cells held → cells ≡ CLAIM_CELLS → (c : ℕ) → 1 ≤ c → c ≤ CLAIM_CELLS → (o : Option ClaimRow) → o ≡ kept (seen_in decoded cells held) c
-      → IfSome o (λ x. (x.claim ≡ c) × IsKept (seen_in decoded cells held) x)
+      → IfSome o (λ x. (x.claim ≡ c) × IsStored (seen_in decoded cells held) x)
   here_by read all c first last None is = tt
   here_by read all c first last (Some x) is =
       let lt : c - 1 < cells = omega (arith, first, last, all) in
@@ -100,7 +100,7 @@ module _ (rows : Claims) (cell : ℕ) (x : ClaimRow) (lt : cell < length rows) w
   ]
 
 -- a claim in its cell is committed again
-pub again_packed : (rows : Claims) (x y : ClaimRow) → HasNoGaps rows → IsKept rows y → x.claim ≡ y.claim → y.claim - 1 < length rows → HasNoGaps (put rows (x.claim - 1) x)
+pub again_packed : (rows : Claims) (x y : ClaimRow) → HasNoGaps rows → IsStored rows y → x.claim ≡ y.claim → y.claim - 1 < length rows → HasNoGaps (put rows (x.claim - 1) x)
 again_packed rows x y packed is same lt =
     put_packed rows (x.claim - 1) x (omega (arith, same, lt)) packed
     (λ k next. packed k (ap (λ (n : ℕ). is_some (claim_at rows n)) (next ∙ ap (λ (n : ℕ). n - 1) same) ∙ ap (λ (o : Option ClaimRow). is_some o) is.here))

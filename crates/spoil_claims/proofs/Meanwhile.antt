@@ -4,11 +4,11 @@ use Rattle.bench_base.specs.declared.events.Reply.{Reply}
 use Rattle.nv_model.specs.declared.nv.Nv as nv
 use Rattle.node_turns.specs.declared.turn.Turn.{Turn}
 use Rattle.line_extensions.specs.Desks.{World, Does}
-use Rattle.line_extensions.specs.Deeds.{Done}
+use Rattle.line_extensions.specs.Trace.{StepRecord}
 use Rattle.line_extensions.specs.Moves.{EachMove}
-use Rattle.line_extensions.specs.SideDeeds.{SideDeed}
-use Rattle.line_extensions.specs.declared.desk.Next.{Next}
-use Rattle.line_extensions.specs.declared.desk.Next.TheVariants.{Say}
+use Rattle.line_extensions.specs.SideTrace.{SideStep}
+use Rattle.line_extensions.specs.declared.extension.Next.{Next}
+use Rattle.line_extensions.specs.declared.extension.Next.TheVariants.{Say}
 use Rattle.line_extensions.proofs.Moving.{each_move}
 use Rattle.line_extensions.proofs.Stores.{shown_still, shown_commit}
 use Rattle.spoil_claims.specs.Claims.{kept, last_claim, credits}
@@ -22,8 +22,8 @@ use Rattle.spoil_claims.specs.declared.claim.ClaimLine.TheVariants.{Claim, Credi
 use Rattle.spoil_claims.specs.declared.claim.ClaimRow.{ClaimRow}
 use Rattle.spoil_claims.specs.declared.claim.TheConstants.{CLAIM_CELLS}
 use Rattle.spoil_claims.specs.declared.desk.Desk.{Desk}
-use Rattle.spoil_claims.specs.declared.said.Said.{Said}
-use Rattle.spoil_claims.specs.declared.said.Said.TheVariants as said
+use Rattle.spoil_claims.specs.declared.answer.Answer.{Answer}
+use Rattle.spoil_claims.specs.declared.answer.Answer.TheVariants as answers
 use Rattle.spoil_claims.proofs.Stopping.{commit_of, shows_now}
 
 by_either : {P Q X : Type 0} (b : Bool) → (P → X) → (Q → X) → Either b P Q → X
@@ -37,55 +37,55 @@ module _ {N : Type 0} {g : nv.Ghosts N} where
   same_shown : (old new : Desk N g) → new ≡ old → ShownMeanwhile old new
   same_shown old new same = rests_shown old new (record { room = ap (λ (d : Desk N g). d.room) same; storage = ap (λ (d : Desk N g). d.nv) same; failed = ap (λ (d : Desk N g). d.failed) same })
 
-  tries_shown : (b : Bool) (x : ClaimRow) (meant : Said) (then : Next) (old : Desk N g) (next : Next) (new : Desk N g) → ByFailed b x meant then old next new → ShownMeanwhile old new
+  tries_shown : (b : Bool) (x : ClaimRow) (meant : Answer) (then : Next) (old : Desk N g) (next : Next) (new : Desk N g) → ByFailed b x meant then old next new → ShownMeanwhile old new
   tries_shown true x meant then old next new did = rests_shown old new did.1
   tries_shown false x meant then old next new did =
       shown_commit g decoded 73 CLAIM_CELLS (view_of old) (view_of new) (λ works. shows_now old works) spelled (commit_of x) old.cells did.result did.commits did.failed
 
-  says_shown : (answer : Said) (old : Desk N g) (next : Next) (new : Desk N g) → Says answer old next new → ShownMeanwhile old new
+  says_shown : (answer : Answer) (old : Desk N g) (next : Next) (new : Desk N g) → Says answer old next new → ShownMeanwhile old new
   says_shown answer old next new says = rests_shown old new says.rests
 
   -- == before the scan ==
 
   claim_shown : (o : Option ClaimRow) (c w : ℕ) (mark : List ℕ) (old : Desk N g) (next : Next) (new : Desk N g) → ByKept o c w mark old next new → ShownMeanwhile old new
   claim_shown (Some x) c w mark old next new (inl known) =
-      by_either x.credited (λ again. says_shown (said.Credited c again.mark true) old next new again.says) (λ scans. rests_shown old new scans.rests) known.1
-  claim_shown (Some x) c w mark old next new (inr other) = says_shown said.Conflict old next new other.1
+      by_either x.credited (λ again. says_shown (answers.Credited c again.mark true) old next new again.says) (λ scans. rests_shown old new scans.rests) known.1
+  claim_shown (Some x) c w mark old next new (inr other) = says_shown answers.Conflict old next new other.1
   claim_shown None c w mark old next new did =
       by_either (c == last_claim (rows_of old) + 1)
-      (λ fits. by_either (c == 1025) (λ full. says_shown said.Full old next new full)
-      (λ tries. tries_shown (has_failed old) (row_for c w mark) (said.Scanning c) (scan_of (row_for c w mark)) old next new tries) fits)
-      (λ wrong. says_shown (said.WrongClaim (last_claim (rows_of old))) old next new wrong) did
+      (λ fits. by_either (c == 1025) (λ full. says_shown answers.Full old next new full)
+      (λ tries. tries_shown (has_failed old) (row_for c w mark) (answers.Scanning c) (scan_of (row_for c w mark)) old next new tries) fits)
+      (λ wrong. says_shown (answers.WrongClaim (last_claim (rows_of old))) old next new wrong) did
 
   begins_shown : (old new : Desk N g) (own : ClaimLine) (next : Next) → Begins old own next new → ShownMeanwhile old new
   begins_shown old new (Claim c w mark) next begins = claim_shown (kept (rows_of old) c) c w mark old next new begins
-  begins_shown old new (Credits w) next begins = says_shown (said.Credits w (credits w (rows_of old))) old next new begins
-  begins_shown old new Reserved next begins = says_shown said.Reserved old next new begins
+  begins_shown old new (Credits w) next begins = says_shown (answers.Credits w (credits w (rows_of old))) old next new begins
+  begins_shown old new Reserved next begins = says_shown answers.Reserved old next new begins
 
   -- == after it ==
 
   scan_shown : (c : ℕ) (reply : Reply) (old : Desk N g) (next : Next) (new : Desk N g) → Scanned c reply old next new → ShownMeanwhile old new
   scan_shown c reply old next new did = elim did.did [
-    | inl credit ↦ tries_shown (has_failed old) (as_credited did.row) (said.Credited did.row.claim credit.1.mark false) Say old next new credit.1.tries
-    | inr other ↦ says_shown (said.Scan reply) old next new other.1
+    | inl credit ↦ tries_shown (has_failed old) (as_credited did.row) (answers.Credited did.row.claim credit.1.mark false) Say old next new credit.1.tries
+    | inr other ↦ says_shown (answers.Scan reply) old next new other.1
   ]
 
-  goes_shown : (s : Said) (reply : Reply) (old : Desk N g) (next : Next) (new : Desk N g) → GoesOn s reply old next new → ShownMeanwhile old new
-  goes_shown (said.Scanning c) reply old next new did = scan_shown c reply old next new did
-  goes_shown said.Nothing reply old next new did = same_shown old new did.1
-  goes_shown (said.Credited c mark again) reply old next new did = same_shown old new did.1
-  goes_shown (said.Credits w sum) reply old next new did = same_shown old new did.1
-  goes_shown said.Conflict reply old next new did = same_shown old new did.1
-  goes_shown (said.WrongClaim last) reply old next new did = same_shown old new did.1
-  goes_shown said.Full reply old next new did = same_shown old new did.1
-  goes_shown said.Reserved reply old next new did = same_shown old new did.1
-  goes_shown said.Worn reply old next new did = same_shown old new did.1
-  goes_shown (said.Scan r) reply old next new did = same_shown old new did.1
+  goes_shown : (s : Answer) (reply : Reply) (old : Desk N g) (next : Next) (new : Desk N g) → GoesOn s reply old next new → ShownMeanwhile old new
+  goes_shown (answers.Scanning c) reply old next new did = scan_shown c reply old next new did
+  goes_shown answers.Nothing reply old next new did = same_shown old new did.1
+  goes_shown (answers.Credited c mark again) reply old next new did = same_shown old new did.1
+  goes_shown (answers.Credits w sum) reply old next new did = same_shown old new did.1
+  goes_shown answers.Conflict reply old next new did = same_shown old new did.1
+  goes_shown (answers.WrongClaim last) reply old next new did = same_shown old new did.1
+  goes_shown answers.Full reply old next new did = same_shown old new did.1
+  goes_shown answers.Reserved reply old next new did = same_shown old new did.1
+  goes_shown answers.Worn reply old next new did = same_shown old new did.1
+  goes_shown (answers.Scan r) reply old next new did = same_shown old new did.1
 
   -- == a run ==
 
-  pub all_shown : {B : Type 0} (Steps : B → B → Done → Turn → Type 0) (old new : World B (Desk N g)) (deeds : List (SideDeed ClaimLine)) (did : Does (claims_desk g) Steps old new deeds)
-      → EachMove (claims_desk g) Steps ShownMeanwhile old new deeds did
-  all_shown Steps old new deeds did =
+  pub all_shown : {B : Type 0} (Steps : B → B → StepRecord → Turn → Type 0) (old new : World B (Desk N g)) (trace : List (SideStep ClaimLine)) (did : Does (claims_desk g) Steps old new trace)
+      → EachMove (claims_desk g) Steps ShownMeanwhile old new trace did
+  all_shown Steps old new trace did =
       each_move (claims_desk g) Steps ShownMeanwhile (λ s t own next begins. begins_shown s t own next begins) (λ s t turn next goes. goes_shown (said_of s) turn.reply s next t goes)
-      (λ s t e turn sees. same_shown s t sees) old new deeds did
+      (λ s t e turn sees. same_shown s t sees) old new trace did

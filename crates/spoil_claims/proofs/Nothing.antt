@@ -3,7 +3,7 @@ use Rattle.std.proofs.Common.{◌≡◌, List, [], false}
 use Rattle.nv_model.specs.declared.nv.Nv as nv
 use Rattle.line_runs.specs.declared.status.SideStatus.{SideStatus}
 use Rattle.line_extensions.specs.Desks.{world}
-use Rattle.line_extensions.specs.SideDeeds.{SideDeed, steps_of}
+use Rattle.line_extensions.specs.SideTrace.{SideStep, steps_of}
 use Rattle.bench.specs.Benches.{Nodes, Stands}
 use Rattle.script_replay.specs.Chains.{SceneOf}
 use Rattle.script_replay.proofs.Nothing.{stands_for_none, bench_fresh}
@@ -17,8 +17,8 @@ use Rattle.spoil_claims.proofs.Blank.{none_backed, nothing_accepted}
 
 module _ (n : Nodes) {N : Type 0} (own : nv.Ghosts N) (old new : SceneOf n) (before after : Desk N own) (stands : Stands n old.bench []) (tells : n.storage.tells) (none : KeepsNone before)
     (works : has_failed before ≡ false) (outcome : SideStatus) where
-  pub claims_fresh : (deeds : List (SideDeed ClaimLine)) → DidClaims n own (world old before) (world new after) outcome deeds → DidFreshClaims n own old new outcome deeds
-  claims_fresh deeds did =
+  pub claims_fresh : (trace : List (SideStep ClaimLine)) → DidClaims n own (world old before) (world new after) outcome trace → DidFreshClaims n own old new outcome trace
+  claims_fresh trace did =
       let backed : AreBacked (rows_of before) [] = none_backed (rows_of before) [] none nothing_accepted in
       record {
         before = before;
@@ -26,7 +26,7 @@ module _ (n : Nodes) {N : Type 0} (own : nv.Ghosts N) (old new : SceneOf n) (bef
         none = none;
         works = works;
         did = did;
-        bench = bench_fresh n old new stands did.side.ended (steps_of deeds) did.side.bench tells;
+        bench = bench_fresh n old new stands did.side.ended (steps_of trace) did.side.bench tells;
         follows = λ τ texts. did.follows τ [] texts (stands_for_none n old new stands τ) tells backed;
         holds = λ τ texts unforged. did.holds τ [] texts (stands_for_none n old new stands τ) tells backed unforged;
       }

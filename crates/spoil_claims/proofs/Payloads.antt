@@ -100,9 +100,9 @@ pub laid : (zeros head mark one two : List ℕ) → length head ≡ 9 → length
     → one ≡ take 0 zeros ++ (head ++ drop (0 + length head) zeros) → two ≡ take 9 one ++ (mark ++ drop (9 + length mark) one) → two ≡ head ++ mark
 laid zeros head mark one two nine long all first second =
     let at : 0 + length head ≡ 9 = omega (arith, nine) in
-    let one_is : one ≡ head ++ drop 9 zeros = first ∙ ap (λ (front : List ℕ). front ++ (head ++ drop (0 + length head) zeros)) (take_none zeros) ∙ ap (λ (n : ℕ). head ++ drop n zeros) at in
-    let front : take 9 one ≡ head = ap (take 9) one_is ∙ take_at head (drop 9 zeros) 9 nine in
+    let one_is : one ≡ head ++ drop 9 zeros = first ∙ ap (λ (prefix : List ℕ). prefix ++ (head ++ drop (0 + length head) zeros)) (take_none zeros) ∙ ap (λ (n : ℕ). head ++ drop n zeros) at in
+    let prefix : take 9 one ≡ head = ap (take 9) one_is ∙ take_at head (drop 9 zeros) 9 nine in
     let sum : length one ≡ length head + length (drop 9 zeros) = ap length one_is ∙ length-append head (drop 9 zeros) in
     let one_long : length one ≡ 73 = omega (arith, sum, nine, length-drop 9 zeros, all) in
     let end : drop (9 + length mark) one ≡ [] = ap (λ (n : ℕ). drop (9 + n) one) long ∙ ap (λ (n : ℕ). drop n one) (sym one_long) ∙ drop-length one in
-    second ∙ ap (λ (x : List ℕ). x ++ (mark ++ drop (9 + length mark) one)) front ∙ ap (λ (x : List ℕ). head ++ (mark ++ x)) end ∙ ap (λ (x : List ℕ). head ++ x) (append-nil mark)
+    second ∙ ap (λ (x : List ℕ). x ++ (mark ++ drop (9 + length mark) one)) prefix ∙ ap (λ (x : List ℕ). head ++ (mark ++ x)) end ∙ ap (λ (x : List ℕ). head ++ x) (append-nil mark)

@@ -4,20 +4,20 @@ use Rattle.std.specs.Prelude.{IfSome}
 use Rattle.bench_base.specs.declared.ledger.Entry.TheVariants.{Begin}
 use Rattle.bench_base.specs.Ledger.{Ledger}
 use Rattle.nv_model.specs.Moments.{Nested}
-use Rattle.line_extensions.specs.Deeds.{Done}
+use Rattle.line_extensions.specs.Trace.{StepRecord}
 use Rattle.ledger_moves.specs.Tariffs.{Tariff}
-use Rattle.script_replay.specs.Deeds.{ledger_after, RunWhile, AreUnforged}
+use Rattle.script_replay.specs.Trace.{ledger_after, RunWhile, AreUnforged}
 use Rattle.std.specs.List.{AllByRecursion}
 use Rattle.bench_base.specs.Rules.{editions}
 use Rattle.nv_model.specs.declared.nv.Nv as nv
 use Rattle.ledger_terms.specs.Editions.{Editions}
 use Rattle.bench.specs.Benches.{Nodes}
-use Rattle.line_runs.specs.Deeds.{Lines, Reads}
+use Rattle.line_runs.specs.Trace.{Lines, Reads}
 use Rattle.line_runs.specs.declared.status.Status.TheVariants as status
 use Rattle.line_runs.specs.declared.status.SideStatus.{SideStatus}
 use Rattle.line_runs.specs.declared.status.SideStatus.TheVariants.{Run}
 use Rattle.line_extensions.specs.Desks.{World, world, side_lines}
-use Rattle.line_extensions.specs.SideDeeds.{SideDeed, steps_of}
+use Rattle.line_extensions.specs.SideTrace.{SideStep, steps_of}
 use Rattle.script_replay.specs.Chains.{SceneOf, scene}
 use Rattle.script_replay.specs.Run.{Unforged, Moves, Leaves}
 use Rattle.script_replay.specs.SideLaws.{told}
@@ -43,19 +43,19 @@ use Rattle.spoil_claims.proofs.Meanwhile.{all_shown}
 use Rattle.spoil_claims.proofs.Stopping.{shows_now, Goes, BreaksBy, IsCutAfter, Ends, all_end}
 use Rattle.line_extensions.proofs.Wanting.{desk_left}
 
-abbrev Read : {N : Type 0} → nv.Ghosts N → Lines (SideDeed ClaimLine)
+abbrev Read : {N : Type 0} → nv.Ghosts N → Lines (SideStep ClaimLine)
 Read own = side_lines (claims_desk own)
 
 -- == what is left ==
 
-module _ {N : Type 0} {own : nv.Ghosts N} (old new : Desk N own) (outcome : SideStatus) (deeds : List (SideDeed ClaimLine)) (at : AtLast (claims_desk own) outcome deeds) where
+module _ {N : Type 0} {own : nv.Ghosts N} (old new : Desk N own) (outcome : SideStatus) (trace : List (SideStep ClaimLine)) (at : AtLast (claims_desk own) outcome trace) where
   -- the commit that was torn
   pub record Left : Type 0 where
     pub torn : Option ClaimRow
-    pub storage : LeavesStorage old new outcome deeds torn
-    pub cut : IfSome torn (λ x. IsCutAfter x (rows_of new) (steps_of deeds))
+    pub storage : LeavesStorage old new outcome trace torn
+    pub cut : IfSome torn (λ x. IsCutAfter x (rows_of new) (steps_of trace))
 
-  went_well : Goes old new → (HasBroken deeds → ⊥) → Left
+  went_well : Goes old new → (HasBroken trace → ⊥) → Left
   went_well goes none = record {
     torn = None;
     storage = record {
@@ -75,7 +75,7 @@ module _ {N : Type 0} {own : nv.Ghosts N} (old new : Desk N own) (outcome : Side
     cut = tt;
   }
 
-  broke_by : (b : Bool) (x : ClaimRow) → has_failed old ≡ b → BreaksBy b x old new → has_failed new ≡ true → HasBroken deeds → IsCutAfter x (rows_of new) (steps_of deeds) → Left
+  broke_by : (b : Bool) (x : ClaimRow) → has_failed old ≡ b → BreaksBy b x old new → has_failed new ≡ true → HasBroken trace → IsCutAfter x (rows_of new) (steps_of trace) → Left
   broke_by true x was by failed broke cut = record {
     torn = None;
     storage = record {
@@ -101,40 +101,40 @@ module _ {N : Type 0} {own : nv.Ghosts N} (old new : Desk N own) (outcome : Side
     cut = cut;
   }
 
-  pub left : Ends old new deeds → Left
+  pub left : Ends old new trace → Left
   left (inl goes) = went_well goes.0 goes.1
   left (inr broke) = broke_by (has_failed old) broke.1 refl broke.2.by broke.2.failed broke.0 broke.3
 
-with_torn_backed : (τ : Tariff) (torn : Option ClaimRow) (rows : Claims) (H : Ledger) (all : List Done) → AreUnforged τ Unforged H all → RunWhile τ Unforged (Moves τ) H all → IfSome torn (λ x. IsCutAfter x rows all)
+with_torn_backed : (τ : Tariff) (torn : Option ClaimRow) (rows : Claims) (H : Ledger) (all : List StepRecord) → AreUnforged τ Unforged H all → RunWhile τ Unforged (Moves τ) H all → IfSome torn (λ x. IsCutAfter x rows all)
     → AreBacked rows (ledger_after τ H all) → AreBacked (with_torn torn rows) (ledger_after τ H all)
 with_torn_backed τ None rows H all unforged run cut b = b
 with_torn_backed τ (Some x) rows H all unforged run cut b = torn_backed τ rows x H all unforged run cut b
 
 module _ {N : Type 0} (n : Nodes) (own : nv.Ghosts N) (nested : (s : N) → own.tells → Nested (own.times s)) (today : Editions editions) (old new : World (SceneOf n) (Desk N own)) (outcome : SideStatus) where
-  pub did_claims : (deeds : List (SideDeed ClaimLine)) → AllByRecursion (Reads (Read own)) deeds → AtLast (claims_desk own) outcome deeds → DidSide n (claims_desk own) old new outcome deeds → DidClaims n own old new outcome deeds
-  did_claims deeds reads at did =
+  pub did_claims : (trace : List (SideStep ClaimLine)) → AllByRecursion (Reads (Read own)) trace → AtLast (claims_desk own) outcome trace → DidSide n (claims_desk own) old new outcome trace → DidClaims n own old new outcome trace
+  did_claims trace reads at did =
       let from = world (scene did.begun old.scene.outside) old.desk in
       let same : new.desk ≡ did.behind.desk = desk_left (λ s t. Leaves (Run status.Memory) s t) outcome did.behind new did.leaves in
-      let answers : AreAnswered (rows_of old.desk) deeds (rows_of new.desk) = subst (λ (r : Claims). AreAnswered (rows_of old.desk) deeds r)
-      (sym (ap (λ (d : Desk N own). rows_of d) same)) (all_answered (StepsBy n) (told n) from did.behind deeds did.did) in
-      let is_left : Left old.desk new.desk outcome deeds at = left old.desk new.desk outcome deeds at
-      (subst (λ (d : Desk N own). Ends old.desk d deeds) (sym same) (all_end nested (StepsBy n) (told n) from did.behind deeds at.last did.did)) in
+      let answers : AreAnswered (rows_of old.desk) trace (rows_of new.desk) = subst (λ (r : Claims). AreAnswered (rows_of old.desk) trace r)
+      (sym (ap (λ (d : Desk N own). rows_of d) same)) (all_answered (StepsBy n) (told n) from did.behind trace did.did) in
+      let is_left : Left old.desk new.desk outcome trace at = left old.desk new.desk outcome trace at
+      (subst (λ (d : Desk N own). Ends old.desk d trace) (sym same) (all_end nested (StepsBy n) (told n) from did.behind trace at.last did.did)) in
       record {
         side = did;
         answers = answers;
         follows = λ τ L texts stands tells backed.
             let through = did.bench.throughout τ L texts stands tells in
-            follow_all τ today own L (rows_of old.desk) (rows_of new.desk) deeds backed reads answers (did.bench.over τ L texts stands tells).run
-            (all_histories τ n (Begin ∷ L) _ _ (steps_of deeds) did.bench.steps through);
+            follow_all τ today own L (rows_of old.desk) (rows_of new.desk) trace backed reads answers (did.bench.over τ L texts stands tells).run
+            (all_histories τ n (Begin ∷ L) _ _ (steps_of trace) did.bench.steps through);
         torn = is_left.torn;
         storage = is_left.storage;
-        throughout = all_shown (StepsBy n) from did.behind deeds did.did;
+        throughout = all_shown (StepsBy n) from did.behind trace did.did;
         holds = λ τ L texts stands tells backed unforged.
             let over = did.bench.over τ L texts stands tells in
             let history = (over.stands unforged).history in
-            let b = backed_after τ own L (rows_of old.desk) (rows_of new.desk) deeds backed reads answers unforged over.run in (
+            let b = backed_after τ own L (rows_of old.desk) (rows_of new.desk) trace backed reads answers unforged over.run in (
               claims_hold today τ _ history (rows_of new.desk) b,
               claims_hold today τ _ history (with_torn is_left.torn (rows_of new.desk))
-                  (with_torn_backed τ is_left.torn (rows_of new.desk) (Begin ∷ L) (steps_of deeds) unforged over.run is_left.cut b),
+                  (with_torn_backed τ is_left.torn (rows_of new.desk) (Begin ∷ L) (steps_of trace) unforged over.run is_left.cut b),
             );
       }

@@ -2,7 +2,7 @@
 use Rattle.std.specs.Prelude.{◌≡◌}
 use Rattle.bench_base.specs.declared.events.Reply.{Reply}
 use Rattle.nv_model.specs.declared.nv.Nv as nv
-use Rattle.line_extensions.specs.declared.desk.Desk.{Ghosts}
+use Rattle.line_extensions.specs.declared.extension.Extension.{Ghosts}
 use Rattle.spoil_claims.specs.ClaimLines.{IsClaimLine}
 use Rattle.spoil_claims.specs.Courses.{Begins, GoesOn}
 use Rattle.spoil_claims.specs.Texts.{said_texts}

@@ -6,12 +6,12 @@ use Rattle.nv_model.specs.declared.nv.Nv as nv
 use Rattle.line_runs.specs.declared.status.SideStatus.{SideStatus}
 use Rattle.line_extensions.specs.Desks.{World, world}
 use Rattle.line_extensions.specs.Moves.{EachMove}
-use Rattle.line_extensions.specs.SideDeeds.{SideDeed, steps_of}
+use Rattle.line_extensions.specs.SideTrace.{SideStep, steps_of}
 use Rattle.ledger_moves.specs.Tariffs.{Tariff}
 use Rattle.bench_abstraction.specs.Tariff.{IsOfTexts}
 use Rattle.bench.specs.Benches.{Nodes}
 use Rattle.script_replay.specs.Chains.{SceneOf, scene}
-use Rattle.script_replay.specs.Deeds.{ledger_after, AreUnforged}
+use Rattle.script_replay.specs.Trace.{ledger_after, AreUnforged}
 use Rattle.script_replay.specs.Run.{Unforged}
 use Rattle.script_replay.specs.Sides.{StepsBy, DidSide}
 use Rattle.script_replay.specs.Throughout.{StandsFor}
@@ -25,20 +25,20 @@ use Rattle.spoil_claims.specs.declared.claim.ClaimLine.{ClaimLine}
 use Rattle.spoil_claims.specs.declared.claim.ClaimRow.{ClaimRow}
 use Rattle.spoil_claims.specs.declared.desk.Desk.{Desk}
 
--- The desk and the bench did the deeds, and each line about claims has its answer, by the claims that were kept then and by the reply to its scan. A
+-- The desk and the bench did the steps, and each line about claims has its answer, by the claims that were kept then and by the reply to its scan. A
 -- commit may have been torn: then a later boot finds the claims without it or with it. At every moment of the run each image shows the claims that are kept then, or these
 -- with the one commit in hand. By a history for which the bench stood, and where the claims of
 -- earlier runs are backed by it, the claims that are kept at each line hold by the ledger so far, and `credits` is answered by it, up to the first
--- forged event. Where nothing was forged, either of these claims hold by the ledger that the deeds leave.
-pub record DidClaims (n : Nodes) {N : Type 0} (own : nv.Ghosts N) (old new : World (SceneOf n) (Desk N own)) (outcome : SideStatus) (deeds : List (SideDeed ClaimLine)) : Type 0 where
-  pub side : DidSide n (claims_desk own) old new outcome deeds
-  pub answers : AreAnswered (rows_of old.desk) deeds (rows_of new.desk)
+-- forged event. Where nothing was forged, either of these claims hold by the ledger that the steps leave.
+pub record DidClaims (n : Nodes) {N : Type 0} (own : nv.Ghosts N) (old new : World (SceneOf n) (Desk N own)) (outcome : SideStatus) (trace : List (SideStep ClaimLine)) : Type 0 where
+  pub side : DidSide n (claims_desk own) old new outcome trace
+  pub answers : AreAnswered (rows_of old.desk) trace (rows_of new.desk)
   pub follows : (τ : Tariff) (L : Ledger) → IsOfTexts τ → StandsFor n τ old.scene.bench L → n.storage.tells → AreBacked (rows_of old.desk) L
-      → FollowLedger τ (Begin ∷ L) (rows_of old.desk) deeds (rows_of new.desk) answers
+      → FollowLedger τ (Begin ∷ L) (rows_of old.desk) trace (rows_of new.desk) answers
   pub torn : Option ClaimRow
-  pub storage : LeavesStorage old.desk new.desk outcome deeds torn
-  pub throughout : EachMove (claims_desk own) (StepsBy n) ShownMeanwhile (world (scene side.begun old.scene.outside) old.desk) side.behind deeds side.did
+  pub storage : LeavesStorage old.desk new.desk outcome trace torn
+  pub throughout : EachMove (claims_desk own) (StepsBy n) ShownMeanwhile (world (scene side.begun old.scene.outside) old.desk) side.behind trace side.did
   pub holds : (τ : Tariff) (L : Ledger) → IsOfTexts τ → StandsFor n τ old.scene.bench L → n.storage.tells → AreBacked (rows_of old.desk) L
-      → AreUnforged τ Unforged (Begin ∷ L) (steps_of deeds)
-      → ClaimsHold (rows_of new.desk) (ledger_after τ (Begin ∷ L) (steps_of deeds))
-      × ClaimsHold (with_torn torn (rows_of new.desk)) (ledger_after τ (Begin ∷ L) (steps_of deeds))
+      → AreUnforged τ Unforged (Begin ∷ L) (steps_of trace)
+      → ClaimsHold (rows_of new.desk) (ledger_after τ (Begin ∷ L) (steps_of trace))
+      × ClaimsHold (with_torn torn (rows_of new.desk)) (ledger_after τ (Begin ∷ L) (steps_of trace))

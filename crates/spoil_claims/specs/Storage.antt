@@ -6,7 +6,7 @@ use Rattle.nv_model.specs.Moments.{Image}
 use Rattle.nv_model.specs.declared.nv.Nv.{Ghosts}
 use Rattle.line_runs.specs.declared.status.SideStatus.{SideStatus}
 use Rattle.line_runs.specs.declared.status.SideStatus.TheVariants.{Stopped}
-use Rattle.line_extensions.specs.SideDeeds.{SideDeed}
+use Rattle.line_extensions.specs.SideTrace.{SideStep}
 use Rattle.line_extensions.specs.Stops as stops
 use Rattle.line_extensions.specs.Stops.{HasBroken}
 use Rattle.node_acts.specs.RowList.{put}
@@ -38,9 +38,9 @@ module _ {N : Type 0} {g : Ghosts N} where
   ShownMeanwhile old new = stops.ShownMeanwhile g decoded 73 CLAIM_CELLS (view_of old) (view_of new)
 
   -- Whether a commit failed, and which was torn; and what each image of the storage shows.
-  pub record LeavesStorage (old new : Desk N g) (outcome : SideStatus) (deeds : List (SideDeed ClaimLine)) (torn : Option ClaimRow) : Type 0 where
+  pub record LeavesStorage (old new : Desk N g) (outcome : SideStatus) (trace : List (SideStep ClaimLine)) (torn : Option ClaimRow) : Type 0 where
     -- the run was stopped if and only if a commit failed
-    pub stops : (outcome ≡ Stopped) ↔ HasBroken deeds
+    pub stops : (outcome ≡ Stopped) ↔ HasBroken trace
     pub failed : (has_failed new ≡ true) ↔ ((has_failed old ≡ true) ⊎ (outcome ≡ Stopped))
     -- where one had failed before, this one answered Failed, and nothing was written
     pub before : has_failed old ≡ true → (torn ≡ None) × IsUntouched old new

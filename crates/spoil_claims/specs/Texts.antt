@@ -3,8 +3,8 @@ use Rattle.std.specs.Prelude.{ℕ, List, [], ◌∷◌, Bool, codes, decimal}
 use Rattle.indicium.specs.declared.Mark.{Mark}
 use Rattle.script_words.specs.Words.{joined, device_word, new_word}
 use Rattle.script_text.specs.Texts.{text_of}
-use Rattle.spoil_claims.specs.declared.said.Said.{Said}
-use Rattle.spoil_claims.specs.declared.said.Said.TheVariants as said
+use Rattle.spoil_claims.specs.declared.answer.Answer.{Answer}
+use Rattle.spoil_claims.specs.declared.answer.Answer.TheVariants as answers
 
 unfoldable pub credited_text : ℕ → Mark → Bool → List ℕ
 credited_text c m again = joined (codes "credited" ∷ decimal c ∷ device_word m.device ∷ decimal m.piece ∷ decimal m.postage ∷ new_word again ∷ [])
@@ -16,14 +16,14 @@ unfoldable pub wrong_claim_text : ℕ → List ℕ
 wrong_claim_text last = joined (codes "refused" ∷ codes "claim" ∷ codes "wrong" ∷ codes "claim" ∷ decimal last ∷ [])
 
 -- the texts of an answer: there is none while a scan is awaited
-abbrev pub said_texts : Said → List (List ℕ)
-said_texts said.Nothing = []
-said_texts (said.Scanning c) = []
-said_texts (said.Credited c mark again) = credited_text c mark again ∷ []
-said_texts (said.Credits w sum) = credits_text w sum ∷ []
-said_texts said.Conflict = codes "refused claim conflict" ∷ []
-said_texts (said.WrongClaim last) = wrong_claim_text last ∷ []
-said_texts said.Full = codes "refused claim full" ∷ []
-said_texts said.Reserved = codes "refused claim reserved" ∷ []
-said_texts said.Worn = codes "worn desk" ∷ []
-said_texts (said.Scan r) = text_of r ∷ []
+abbrev pub said_texts : Answer → List (List ℕ)
+said_texts answers.Nothing = []
+said_texts (answers.Scanning c) = []
+said_texts (answers.Credited c mark again) = credited_text c mark again ∷ []
+said_texts (answers.Credits w sum) = credits_text w sum ∷ []
+said_texts answers.Conflict = codes "refused claim conflict" ∷ []
+said_texts (answers.WrongClaim last) = wrong_claim_text last ∷ []
+said_texts answers.Full = codes "refused claim full" ∷ []
+said_texts answers.Reserved = codes "refused claim reserved" ∷ []
+said_texts answers.Worn = codes "worn desk" ∷ []
+said_texts (answers.Scan r) = text_of r ∷ []

@@ -9,7 +9,7 @@ use Rattle.row_store.specs.Seen.{seen_in}
 use Rattle.spoil_claims.specs.Claims.{Claims}
 use Rattle.spoil_claims.specs.Payload.{decoded}
 use Rattle.spoil_claims.specs.declared.desk.Desk.{Desk}
-use Rattle.spoil_claims.specs.declared.said.Said.{Said}
+use Rattle.spoil_claims.specs.declared.answer.Answer.{Answer}
 
 module _ {N : Type 0} {g : Ghosts N} where
   -- its storage
@@ -25,7 +25,7 @@ module _ {N : Type 0} {g : Ghosts N} where
   has_failed desk = desk.failed
 
   -- what it answered last, or waits for
-  abbrev pub said_of : Desk N g → Said
+  abbrev pub said_of : Desk N g → Answer
   said_of desk = desk.said
 
   -- the claims that it keeps

@@ -11,10 +11,10 @@ ghost use Rattle.spoil_claims.specs.Payload.{decoded};
 ghost use Rattle.spoil_claims.specs.View.{storage_of, room_of, has_failed, rows_of};
 ghost use Rattle.spoil_claims.specs.declared.claim.TheConstants.{CLAIM_CELLS};
 
+use crate::answer::Answer;
 use crate::claim::CLAIM_CELLS;
 use crate::desk::Desk;
 use crate::payload::ClaimRows;
-use crate::said::Said;
 use bench_base::refusals::BootFail;
 use nv_model::Nv;
 use nv_store::Room;
@@ -61,7 +61,7 @@ impl<N: Nv> Desk<N> {
                 nv,
                 room,
                 failed: false,
-                said: Said::Nothing,
+                said: Answer::Nothing,
             }),
             Err(fail) => Err((nv, room, fail)),
         }

@@ -10,23 +10,23 @@ ghost use Rattle.spoil_claims.specs.Claims.{HasNoGaps, kept, last_claim, credits
 ghost use Rattle.spoil_claims.specs.Courses.{IsSame, row_for, Says, Tries, Known, Unknown, Begins, Credited, Scanned, scan_of};
 ghost use Rattle.spoil_claims.specs.Payload.{IsFit};
 ghost use Rattle.spoil_claims.specs.View.{said_of, rows_of};
-ghost use Rattle.spoil_claims.specs.Waits.{IsKept, IsWaiting};
+ghost use Rattle.spoil_claims.specs.Waits.{IsStored, IsWaiting};
 ghost use Rattle.spoil_claims.specs.declared.claim.TheConstants.{CLAIM_CELLS};
 
+use crate::answer::Answer;
 use crate::claim::{CLAIM_CELLS, ClaimLine, ClaimRow};
 use crate::desk::Desk;
 use crate::lines::LAST_SCAN;
 use crate::payload::ClaimRows;
-use crate::said::Said;
 use bench_base::bytes::Given;
 use bench_base::events::{Event, Reply};
 use bench_base::numbers::Customer;
 use bench_base::refusals::StoreFail;
-use line_extensions::Next;
 use indicium::{Mark, read_indicium};
-use scan_laws::accepted::is_accepted;
+use line_extensions::Next;
 use nv_model::Nv;
 use row_store::{commit_row, row_in};
+use scan_laws::accepted::is_accepted;
 
 // The mark of bytes that read as one.
 fn mark_in(bytes: &[u8; 64]) -> Mark
@@ -99,7 +99,7 @@ impl<N: Nv> Desk<N> {
     pub(crate) fn kept(&self, claim: u32) -> Option<ClaimRow>
         requires first { 1 ≤ claim }
         ensures is { result ≡ kept (rows_of self.now) claim }
-        ensures here { IfSome result (λ x. (x.claim ≡ claim) × IsKept (rows_of self.now) x) }
+        ensures here { IfSome result (λ x. (x.claim ≡ claim) × IsStored (rows_of self.now) x) }
     {
         if claim > CLAIM_CELLS {
             return None;
@@ -135,7 +135,7 @@ impl<N: Nv> Desk<N> {
     }
 
     // Answers so.
-    pub(crate) fn say(&mut self, said: Said) -> Next
+    pub(crate) fn say(&mut self, said: Answer) -> Next
         requires waits { IsWaiting (rows_of self.old) said }
         ensures says { Says said self.old result self.new }
     {
@@ -144,7 +144,7 @@ impl<N: Nv> Desk<N> {
     }
 
     // Commits a claim to its cell. What is meant follows once that is done.
-    fn commit(&mut self, row: &ClaimRow, meant: Said, then: Next) -> Next
+    fn commit(&mut self, row: &ClaimRow, meant: Answer, then: Next) -> Next
         requires first { 1 ≤ row.now.claim }
         requires last { row.now.claim ≤ CLAIM_CELLS }
         requires fits { IsFit (row.now.claim - 1) row.now }
@@ -154,7 +154,7 @@ impl<N: Nv> Desk<N> {
         ensures next { (result ≡ then) ⊎ (IsStep result → ⊥) }
     {
         if self.failed {
-            self.said = Said::Nothing;
+            self.said = Answer::Nothing;
             return Next::Stop;
         }
         let cell = row.claim - 1;
@@ -164,12 +164,12 @@ impl<N: Nv> Desk<N> {
                 then
             }
             Err(StoreFail::Worn) => {
-                self.said = Said::Worn;
+                self.said = Answer::Worn;
                 Next::Say
             }
             Err(_) => {
                 self.failed = true;
-                self.said = Said::Nothing;
+                self.said = Answer::Nothing;
                 Next::Stop
             }
         }
@@ -177,17 +177,17 @@ impl<N: Nv> Desk<N> {
 
     // A claim whose number is kept.
     pub(crate) fn known(&mut self, row: &ClaimRow, customer: Customer, mark: &[u8; 64]) -> Next
-        requires kept { IsKept (rows_of self.old) row.now }
+        requires kept { IsStored (rows_of self.old) row.now }
         ensures begins { Known row.now.claim customer mark.now row.now self.old result self.new }
         ensures may { MayAsk result 0 }
     {
         if !is_same(row, customer, mark) {
-            return self.say(Said::Conflict);
+            return self.say(Answer::Conflict);
         }
         if row.credited {
-            return self.say(Said::Credited(row.claim, mark_in(&row.mark), true));
+            return self.say(Answer::Credited(row.claim, mark_in(&row.mark), true));
         }
-        self.said = Said::Scanning(row.claim);
+        self.said = Answer::Scanning(row.claim);
         scan_for(row)
     }
 
@@ -200,19 +200,19 @@ impl<N: Nv> Desk<N> {
     {
         let last = self.last();
         if claim != last + 1 {
-            return self.say(Said::WrongClaim(last));
+            return self.say(Answer::WrongClaim(last));
         }
         if claim == CLAIM_CELLS + 1 {
-            return self.say(Said::Full);
+            return self.say(Answer::Full);
         }
         let row = open_claim(claim, customer, mark);
         let scan = scan_for(&row);
-        self.commit(&row, Said::Scanning(claim), scan)
+        self.commit(&row, Answer::Scanning(claim), scan)
     }
 
     // After the scan of a claim.
     pub(crate) fn scanned(&mut self, claim: u32, told: &Reply) -> Next
-        requires waits { said_of self.old ≡ Said.Scanning claim }
+        requires waits { said_of self.old ≡ Answer.Scanning claim }
         ensures goes { Scanned claim told.now self.old result self.new }
         ensures last { IsStep result → ⊥ }
     {
@@ -222,19 +222,19 @@ impl<N: Nv> Desk<N> {
         if is_accepted(told) {
             self.credit(&row)
         } else {
-            self.say(Said::Scan(*told))
+            self.say(Answer::Scan(*told))
         }
     }
 
     // Commits a claim as credited.
     fn credit(&mut self, row: &ClaimRow) -> Next
-        requires kept { IsKept (rows_of self.old) row.now }
+        requires kept { IsStored (rows_of self.old) row.now }
         ensures credited { Credited row.now self.old result self.new }
         ensures last { IsStep result → ⊥ }
     {
         let mut credited = *row;
         credited.credited = true;
-        let meant = Said::Credited(row.claim, mark_in(&row.mark), false);
+        let meant = Answer::Credited(row.claim, mark_in(&row.mark), false);
         self.commit(&credited, meant, Next::Say)
     }
 
@@ -251,9 +251,9 @@ impl<N: Nv> Desk<N> {
             },
             ClaimLine::Credits(customer) => {
                 let sum = self.credits(*customer);
-                self.say(Said::Credits(*customer, sum))
+                self.say(Answer::Credits(*customer, sum))
             }
-            ClaimLine::Reserved => self.say(Said::Reserved),
+            ClaimLine::Reserved => self.say(Answer::Reserved),
         }
     }
 }

@@ -8,7 +8,7 @@ ghost use Rattle.spoil_claims.specs.Payload.{decoded};
 ghost use Rattle.spoil_claims.specs.Waits.{IsWaiting, waiting_prop};
 ghost use Rattle.spoil_claims.specs.declared.claim.TheConstants.{CLAIM_CELLS};
 
-use crate::said::Said;
+use crate::answer::Answer;
 use nv_model::Nv;
 use nv_store::Room;
 
@@ -18,7 +18,7 @@ pub struct Desk<N: Nv> {
     pub(crate) nv: N,
     pub(crate) room: Room<73>,
     pub(crate) failed: bool,
-    pub(crate) said: Said,
+    pub(crate) said: Answer,
     ghost cells: { cells_of room ≡ CLAIM_CELLS },
     ghost read: { AllRead decoded (cells_of room) (kept_in room) } by { read_prop decoded (cells_of room) (kept_in room) },
     ghost packed: { HasNoGaps (seen_in decoded (cells_of room) (kept_in room)) },

@@ -50,7 +50,7 @@ fn run_over<S: BufSource, K: Sink>(
     requires made { IsOverFresh (bench_of bench) }
     requires none { KeepsNone desk }
     requires works { has_failed desk ≡ false }
-    ensures ran { RanSideFresh ⟦<Bench<MemNv> as HasNodes>⟧.nodes ⟦<Desk<MemNv> as line_extensions::Desk>⟧
+    ensures ran { RanSideFresh ⟦<Bench<MemNv> as HasNodes>⟧.nodes ⟦<Desk<MemNv> as line_extensions::Extension>⟧
         (λ made. IsOverFresh made) (codes "claims") result (map string_bytes words.now)
         (λ old new. DidFreshClaims ⟦<Bench<MemNv> as HasNodes>⟧.nodes ⟦<MemNv as Nv>⟧ old new result)
         (streams_of S.Source K.Sink ⟦<MemSource as Source>⟧ ⟦<MemSink as Sink>⟧
@@ -78,7 +78,7 @@ pub fn run_fresh_claims<S: BufSource, K: Sink>(
     printer: &mut MemSink,
 ) -> Option<SideStatus>
     ensures ran { IfSome result (λ outcome. RanSideFresh ⟦<Bench<MemNv> as HasNodes>⟧.nodes
-        ⟦<Desk<MemNv> as line_extensions::Desk>⟧ (λ made. IsOverFresh made) (codes "claims") outcome
+        ⟦<Desk<MemNv> as line_extensions::Extension>⟧ (λ made. IsOverFresh made) (codes "claims") outcome
         (map string_bytes words.now)
         (λ old new. DidFreshClaims ⟦<Bench<MemNv> as HasNodes>⟧.nodes ⟦<MemNv as Nv>⟧ old new outcome)
         (streams_of S.Source K.Sink ⟦<MemSource as Source>⟧ ⟦<MemSink as Sink>⟧

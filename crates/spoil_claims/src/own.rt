@@ -7,16 +7,16 @@ ghost use Rattle.spoil_claims.specs.Texts.{said_texts};
 ghost use Rattle.spoil_claims.specs.View.{said_of};
 ghost use Rattle.spoil_claims.specs.declared.claim.ClaimLine.{ClaimLine as TheLine};
 
+use crate::answer::Answer;
 use crate::desk::Desk;
 use crate::lines::read_claim_line;
-use crate::said::Said;
 use bench_base::events::{Event, Reply};
 use line_extensions::Next;
 use nv_model::Nv;
 use script_words::Line;
 use std::alloc::{AllocError, Global};
 
-impl<N: Nv> line_extensions::Desk for Desk<N> {
+impl<N: Nv> line_extensions::Extension for Desk<N> {
     type Heard = Reply;
 
     ghost Own = { TheLine };
@@ -48,7 +48,7 @@ impl<N: Nv> line_extensions::Desk for Desk<N> {
 
     fn go_on(&mut self, told: &Reply) -> Next {
         match self.said {
-            Said::Scanning(claim) => self.scanned(claim, told),
+            Answer::Scanning(claim) => self.scanned(claim, told),
             _ => Next::Say,
         }
     }

@@ -31,16 +31,16 @@ pub fn run_claims<S: BufSource, R: Source, K: Sink, P: Sink, N: Nv + Drop>(
 ) -> SideStatus
     requires ready { IsReady (bench_of bench.old) }
     ensures ready { IsReady (bench_of bench.new) }
-    ensures ran { RanSide ⟦<Desk<N> as line_extensions::Desk>⟧ (codes "claims") result (map string_bytes words.now)
+    ensures ran { RanSide ⟦<Desk<N> as line_extensions::Extension>⟧ (codes "claims") result (map string_bytes words.now)
         (DidClaims ⟦<Bench<N> as HasNodes>⟧.nodes N.Nv
         (world (scene_of R.Source P.Sink bench.old rates.old printer.old) desk.old)
         (world (scene_of R.Source P.Sink bench.new rates.new printer.new) desk.new) result)
         (streams_of S.Source K.Sink R.Source P.Sink script.old report.old rates.old printer.old)
         (streams_of S.Source K.Sink R.Source P.Sink script.new report.new rates.new printer.new) }
-    ensures ends { EndsSide ⟦<Desk<N> as line_extensions::Desk>⟧ (codes "claims") result (map string_bytes words.now)
+    ensures ends { EndsSide ⟦<Desk<N> as line_extensions::Extension>⟧ (codes "claims") result (map string_bytes words.now)
         (streams_of S.Source K.Sink R.Source P.Sink script.old report.old rates.old printer.old)
         (streams_of S.Source K.Sink R.Source P.Sink script.new report.new rates.new printer.new) }
-    ensures completes { CompletesSide ⟦<Desk<N> as line_extensions::Desk>⟧ (codes "claims") result
+    ensures completes { CompletesSide ⟦<Desk<N> as line_extensions::Extension>⟧ (codes "claims") result
         (map string_bytes words.now)
         (streams_of S.Source K.Sink R.Source P.Sink script.old report.old rates.old printer.old)
         (streams_of S.Source K.Sink R.Source P.Sink script.new report.new rates.new printer.new) }

@@ -138,7 +138,7 @@ one_append (x ∷ a) b h k = (h.0, one_append a b h.1 k)
 end_behind : (a b c : List ℕ) → a ++ (ended b ++ c) ≡ ended (a ++ b) ++ c
 end_behind a b c = simp append_assoc
 
--- a part of a line is the front of the first line
+-- a part of a line is the prefix of the first line
 cut_first : (part left : List ℕ) → IsOneLine part → 0 < length part → (x : List ℕ) × (more : List (List ℕ)) × (lines_of (part ++ left) ≡ (part ++ x) ∷ more)
 cut_first part left one some = at (first_end left)
   where

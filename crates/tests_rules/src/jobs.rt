@@ -1,5 +1,5 @@
 //! A job's payload by its layout, and the memory for jobs.
-ghost use Rattle.host_jobs.specs.Soundness.{IsKept};
+ghost use Rattle.host_jobs.specs.Soundness.{IsDerived};
 
 use crate::checks::{holds, holds_at};
 use bench_base::fields::{put_u16, put_u32};
@@ -188,7 +188,7 @@ fn told<A: Copy>(act: HostAct<A>) -> &'static str {
 
 // What is told of an order without rates.
 fn ordered_without_rates(device: DevNo, rows: &JobRows, kept: &Kept) -> &'static str
-    requires { IsKept rows.now kept.now }
+    requires { IsDerived rows.now kept.now }
 {
     told(order_act(device, 1, 1, None, rows, kept))
 }
@@ -199,7 +199,7 @@ fn ordered(
     rows: &JobRows,
     kept: &Kept,
 ) -> Option<((u32, u32, u32, u16), u32, (u32, u32))>
-    requires { IsKept rows.now kept.now }
+    requires { IsDerived rows.now kept.now }
 {
     match order_act(device, 1, 2, Some(Ok(550)), rows, kept) {
         Act::Commits(
@@ -242,7 +242,7 @@ fn orders_without_jobs(rt: HostRuntime) -> Result<(), AllocError> {
 // sample host_jobs
 // What is told where a job is sent, printed and closed, and no bytes are taken.
 fn refusals(rows: &JobRows, kept: &Kept) -> (&'static str, &'static str, &'static str, &'static str)
-    requires { IsKept rows.now kept.now }
+    requires { IsDerived rows.now kept.now }
 {
     (
         told(debit_message_act(1, rows)),

@@ -1,3 +1,3 @@
 mod Streams
-pub mod Fronts
+pub mod Prefixes
 pub mod LowerDigits

@@ -56,17 +56,17 @@ fn count_before(bytes: &[u8], value: u8) -> usize
     }
 }
 
-// Copies as much of the front as there is room for. One byte is moved without a call.
-fn copy_front(front: &[u8], buf: &mut [u8]) -> usize
-    ensures count { result ≡ min (length front.now) (length buf.old) }
-    ensures copied { take result buf.new ≡ take result front.now }
+// Copies as much of the prefix as there is room for. One byte is moved without a call.
+fn copy_prefix(prefix: &[u8], buf: &mut [u8]) -> usize
+    ensures count { result ≡ min (length prefix.now) (length buf.old) }
+    ensures copied { take result buf.new ≡ take result prefix.now }
     ensures long { length buf.new ≡ length buf.old }
 {
-    let count = front.len().min(buf.len());
+    let count = prefix.len().min(buf.len());
     if count == 1 {
-        buf[0] = front[0];
+        buf[0] = prefix[0];
     } else {
-        buf[..count].copy_from_slice(&front[..count]);
+        buf[..count].copy_from_slice(&prefix[..count]);
     }
     count
 }
@@ -143,7 +143,7 @@ impl<S: Source> Source for ReadAhead<S> {
 
     fn read(&mut self, buf: &mut [u8]) -> Result<usize, ReadFail> {
         self.refill()?;
-        let count = copy_front(&self.buffer.as_slice()[self.at..self.end], buf);
+        let count = copy_prefix(&self.buffer.as_slice()[self.at..self.end], buf);
         self.at += count;
         Ok(count)
     }
@@ -153,9 +153,9 @@ impl<S: Source> BufSource for ReadAhead<S> {
     fn read_until(&mut self, value: u8, buf: &mut [u8]) -> Result<Piece, ReadFail> {
         self.refill()?;
         let ahead = self.ahead();
-        let front = &ahead[..ahead.len().min(buf.len())];
-        let len = count_before(front, value);
-        buf[..len].copy_from_slice(&front[..len]);
+        let prefix = &ahead[..ahead.len().min(buf.len())];
+        let len = count_before(prefix, value);
+        buf[..len].copy_from_slice(&prefix[..len]);
         self.pass(len);
         let is_ended = self.pass_one(value);
         Ok(Piece { len, is_ended })

@@ -10,7 +10,7 @@ use bench_base::stream::{Sink, WriteFail};
 /// The hexadecimal digits of a mark, two for each of its 64 bytes.
 const DIGITS: usize = 128;
 
-/// Appends the whole text to the sink. With `WriteFail` a part of its front was appended that lacks at least one byte,
+/// Appends the whole text to the sink. With `WriteFail` a part of its prefix was appended that lacks at least one byte,
 /// and the sink's count of faults rose.
 pub fn put_text<K: Sink>(sink: &mut K, text: &[u8]) -> Result<(), WriteFail>
     ensures ok { OnOk result (Appends (K.taken sink.old) (K.taken sink.new) text.now) }
@@ -29,7 +29,7 @@ pub fn put_text<K: Sink>(sink: &mut K, text: &[u8]) -> Result<(), WriteFail>
     Ok(())
 }
 
-/// Prints a mark: its 128 lower-case hexadecimal digits and the line end. With `WriteFail` a part of the line's front was
+/// Prints a mark: its 128 lower-case hexadecimal digits and the line end. With `WriteFail` a part of the line's prefix was
 /// printed that lacks at least one byte, and the printer's count of faults rose. It takes no memory.
 pub fn print_mark<P: Sink>(printer: &mut P, mark: &[u8; 64]) -> Result<(), WriteFail>
     ensures ok { OnOk result (Appends (P.taken printer.old) (P.taken printer.new) (print_line mark.now)) }

@@ -11,7 +11,7 @@ use Rattle.verifier.specs.Seen as verifier_seen
 use Rattle.centre_ledger.specs.declared.rows.Row.{Row}
 use Rattle.host_jobs.specs.declared.rows.JobRow.{JobRow}
 use Rattle.verifier.specs.declared.acts.Change.{Change}
-use Rattle.trace_nodes.specs.declared.seat.Seat.{Seat}
+use Rattle.trace_nodes.specs.declared.traced.Traced.{Traced}
 use Rattle.trace_device.specs.declared.record.DeviceRecord.{DeviceRecord}
 use Rattle.trace_device.specs.Records as device
 use Rattle.trace_centre.specs.declared.record.CentreRecord.{CentreRecord}
@@ -28,7 +28,7 @@ abbrev pub off : {S : Type 0} → View S → View S
 off v = record v { on = false }
 
 -- with these devices and messages, all nodes off, and no day
-abbrev pub begun : Audit → List (Seat DeviceRecord State) → List (List ℕ) → Audit
+abbrev pub begun : Audit → List (Traced DeviceRecord State) → List (List ℕ) → Audit
 begun a devices messages = record {
   day = None;
   messages = messages;
@@ -40,21 +40,21 @@ begun a devices messages = record {
   known = a.known;
 }
 
-begun_run : (a : Audit) (devices : List (Seat DeviceRecord State)) (messages : List (List ℕ)) → AreShut a.devices devices → messages ≡ [] → (H : Ledger) → SeesRun a H → SeesRun (begun a devices messages) (Begin ∷ H)
+begun_run : (a : Audit) (devices : List (Traced DeviceRecord State)) (messages : List (List ℕ)) → AreShut a.devices devices → messages ≡ [] → (H : Ledger) → SeesRun a H → SeesRun (begun a devices messages) (Begin ∷ H)
 begun_run a devices messages shut_are none H sees = record {
   day = record { day = refl; messages = none; rates = tt };
   devices = λ i t at.
       let w = shut_are.each i t at in
-      ap (λ (s : Seat DeviceRecord State). device.view_of s) w.2 ∙ ap (λ (v : View device_seen.Seen). off v) (sees.devices i w.0 w.1);
+      ap (λ (s : Traced DeviceRecord State). device.view_of s) w.2 ∙ ap (λ (v : View device_seen.Seen). off v) (sees.devices i w.0 w.1);
   centre = ap (λ (v : View centre_seen.Seen). off v) sees.centre;
   host = ap (λ (v : View host_seen.Seen). off v) sees.host;
   verifier = ap (λ (v : View verifier_seen.Seen). off v) sees.verifier;
 }
 
-pub begun_sees : (a : Audit) (devices : List (Seat DeviceRecord State)) (messages : List (List ℕ)) → AreShut a.devices devices → messages ≡ [] → (H : Ledger) → Sees a H → Sees (begun a devices messages) (Begin ∷ H)
+pub begun_sees : (a : Audit) (devices : List (Traced DeviceRecord State)) (messages : List (List ℕ)) → AreShut a.devices devices → messages ≡ [] → (H : Ledger) → Sees a H → Sees (begun a devices messages) (Begin ∷ H)
 begun_sees a devices messages shut_are none H sees = record { run = begun_run a devices messages shut_are none H sees.run; known = knows_begun a.known H sees.known }
 
-module _ (devices : List (Seat DeviceRecord State)) (c : Seat CentreRecord Row) (h : Seat HostRecord JobRow) (v : Seat ScanRecord Change) (messages : List (List ℕ)) (k : Known) where
+module _ (devices : List (Traced DeviceRecord State)) (c : Traced CentreRecord Row) (h : Traced HostRecord JobRow) (v : Traced ScanRecord Change) (messages : List (List ℕ)) (k : Known) where
   abbrev pub of_blank : Audit
   of_blank = record { day = None; messages = messages; rates = None; devices = devices; centre = c; host = h; verifier = v; known = k }
 

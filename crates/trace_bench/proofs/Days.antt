@@ -30,12 +30,11 @@ use Rattle.bench_base.specs.Ranges.{IsWholeEvent, IsDevice}
 use Rattle.bench_base.specs.Ledger.{Ledger, day_in}
 use Rattle.ledger_moves.specs.Tariffs.{Tariff}
 use Rattle.ledger_moves.specs.Moves.{FailsToRead, plan}
-use Rattle.bench_abstraction.specs.declared.taken.Taken.{Taken}
-use Rattle.bench_abstraction.specs.declared.taken.Taken.TheVariants as take
-use Rattle.bench_abstraction.specs.declared.taken.Work.{Work}
-use Rattle.bench_abstraction.specs.declared.taken.Work.TheVariants as work
+use Rattle.bench_abstraction.specs.declared.routing.Routed.TheVariants as route
+use Rattle.bench_abstraction.specs.declared.routing.OfDay.{OfDay}
+use Rattle.bench_abstraction.specs.declared.routing.OfDay.TheVariants as of_day
 use Rattle.bench_abstraction.specs.Tariff.{IsOfTexts, quote}
-use Rattle.bench_abstraction.specs.Taken.{taken}
+use Rattle.bench_abstraction.specs.Routing.{routed}
 use Rattle.bench_abstraction.proofs.OfNone.{plan_day, plan_end, plan_none}
 use Rattle.bench.proofs.Making.{get_some}
 use Rattle.trace_bench.specs.declared.judging.Heard.{Heard}
@@ -55,7 +54,7 @@ use Rattle.trace_bench.proofs.Quiet.{IsSilent, heard_plainly}
 
 -- == what is heard ==
 
--- without a day nothing is taken
+-- without a day nothing is routed
 takes_undated : (e : Event) (today : Option ℤ) (left : List ℕ) → is_some today ≡ false → TakesNone e today left
 takes_undated e today left undated t = by (takes_rates e) (is_some today) undated
   where
@@ -156,15 +155,15 @@ module _ (τ : Tariff) (H : Ledger) (left line : List ℕ) (old : Audit) (sees :
 
   -- an event of no node that the bench answers by what it sees
   module _ (texts : IsOfTexts τ) (prices : KeptPrices) (history : History τ editions H) (quiet : OthersAreQuiet bench_kinds centre.IsKnown) (known : centre.IsKnown (centre_cells.view_of old.centre).state) where
-    pub hears_quiet : (today : ℤ) → old.day ≡ Some today → (e : Event) (x : Work) → taken old.messages (quote old.rates) e ≡ Some (take.Work x) → x ≢ work.Rates → (reply : Reply) → quiet_by bench_kinds H x ≡ Some reply → IsStill reply → IsWholeEvent e
+    pub hears_quiet : (today : ℤ) → old.day ≡ Some today → (e : Event) (x : OfDay) → routed old.messages (quote old.rates) e ≡ Some (route.OfDay x) → x ≢ of_day.Rates → (reply : Reply) → quiet_by bench_kinds H x ≡ Some reply → IsStill reply → IsWholeEvent e
         → (result : Result Heard Finding) → IsPlainly reply line result → IsHeard τ H e left line old result
     hears_quiet today day e x is other reply answers still whole result plainly =
         hears_still e reply
-        (quiet τ H e today x reply history (sym sees.day.day ∙ day) (taken_there τ prices texts H old e (take.Work x) sees is) (subst (λ (v : View centre.Seen). centre.IsKnown v.state) sees.centre known) answers)
+        (quiet τ H e today x reply history (sym sees.day.day ∙ day) (taken_there τ prices texts H old e (route.OfDay x) sees is) (subst (λ (v : View centre.Seen). centre.IsKnown v.state) sees.centre known) answers)
         still (not_for_rates old.messages (quote old.rates) e x is other) whole result plainly
 
 -- what compares a device and the centre is what the ledger compares
-pub compared_at : (H : Ledger) (old : Audit) → SeesRun old H → IsReady old → (d : ℕ) → IsDevice d → (reply : Reply) → ComparesInPlace d old.devices old.centre reply → (quiet_by bench_kinds H (work.Reconcile d) ≡ Some reply) × IsStill reply
+pub compared_at : (H : Ledger) (old : Audit) → SeesRun old H → IsReady old → (d : ℕ) → IsDevice d → (reply : Reply) → ComparesInPlace d old.devices old.centre reply → (quiet_by bench_kinds H (of_day.Reconcile d) ≡ Some reply) × IsStill reply
 compared_at H old sees ready d named reply shows =
     let i = d - 1 in
     let place : d ≡ i + 1 = omega (arith, named.0) in

@@ -210,7 +210,7 @@ mark_tells bytes known s H same keys (Err fault) = tt
 module _ (a : Audit) (kept : IsTrue (keeps a)) (H : Ledger) (sees : Sees a H) (bytes : List ℕ) (x : Result Message Unread) where
   told_reply : (d : ℕ) (b : Bool) → OfDevice d a (λ s. b ≡ forged_reply (seen_of s.record).state d bytes a.known.sent x) → TellsNot b (IsKnown bytes x (Device d) H)
   told_reply d b of =
-      let shown = device_shown a H sees d (λ (v : View device.Seen). forged_reply v.state.state d bytes a.known.sent x) b (record { place = of.place; is_device = of.is_device; seat = of.seat; at = of.at; holds = of.holds }) in
+      let shown = device_shown a H sees d (λ (v : View device.Seen). forged_reply v.state.state d bytes a.known.sent x) b (record { place = of.place; is_device = of.is_device; traced = of.traced; at = of.at; holds = of.holds }) in
       subst (λ (t : Bool). TellsNot t (IsKnown bytes x (Device d) H)) (sym shown) (reply_tells bytes a.known.sent d H (sees.known.sent kept bytes) x)
 
   told_message : All InRange (counted H) → (b : Bool) → b ≡ forged_message (centre.books_in (centre_cells.cells_of a.centre.record)) bytes a.known.sent x → TellsNot b (IsKnown bytes x Centre H)

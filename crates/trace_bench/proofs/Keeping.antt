@@ -23,14 +23,6 @@ knows_more sent released old new H L learns knows adds = record {
       joined (learns.releases was mark) (knows.released was mark) (IsReleased mark L) (adds.releases mark);
 }
 
--- nothing is kept where it is not
-pub learns_none : (sent released : Option (List ℕ)) (k : Known) → k.is_kept ≡ false → Learns sent released k k
-learns_none sent released k none = record {
-  kept = refl;
-  sends = λ kept. absurd (true≢false (sym kept ∙ none));
-  releases = λ kept. absurd (true≢false (sym kept ∙ none));
-}
-
 pub knows_same : (old new : Known) (H : Ledger) → KeepsSame old new → Knows old H → Knows new H
 knows_same old new H keeps knows = record {
   sent = λ kept bytes.

@@ -22,20 +22,20 @@ use Rattle.bench_abstraction.specs.declared.calls.DeviceCall.{DeviceCall}
 use Rattle.bench_abstraction.specs.declared.calls.CentreCall.{CentreCall}
 use Rattle.bench_abstraction.specs.declared.calls.HostCall.{HostCall}
 use Rattle.bench_abstraction.specs.declared.calls.VerifierCall.{VerifierCall}
-use Rattle.bench_abstraction.specs.declared.taken.Taken.{Taken}
-use Rattle.bench_abstraction.specs.declared.taken.Taken.TheVariants as take
-use Rattle.bench_abstraction.specs.declared.taken.Work.{Work}
-use Rattle.bench_abstraction.specs.declared.taken.Work.TheVariants as work
+use Rattle.bench_abstraction.specs.declared.routing.Routed.{Routed}
+use Rattle.bench_abstraction.specs.declared.routing.Routed.TheVariants as route
+use Rattle.bench_abstraction.specs.declared.routing.OfDay.{OfDay}
+use Rattle.bench_abstraction.specs.declared.routing.OfDay.TheVariants as of_day
 use Rattle.bench_abstraction.specs.Centre as centres
 use Rattle.bench_abstraction.specs.Verifier as verifiers
 use Rattle.bench_abstraction.specs.Follows.{OthersStay, Rests}
 use Rattle.bench_abstraction.specs.Kinds.{bench_kinds}
 use Rattle.bench_abstraction.specs.Messages.{sent_in}
 use Rattle.bench_abstraction.specs.Tariff.{IsOfTexts, Quote, quote, quote_in}
-use Rattle.bench_abstraction.specs.Taken.{taken}
+use Rattle.bench_abstraction.specs.Routing.{routed}
 use Rattle.trace_nodes.specs.declared.giving.GaveOut.{GaveOut}
-use Rattle.trace_nodes.specs.declared.printing.Told.{Told}
-use Rattle.trace_nodes.specs.declared.seat.Seat.{Seat}
+use Rattle.trace_nodes.specs.declared.printing.PrintOutcome.{PrintOutcome}
+use Rattle.trace_nodes.specs.declared.traced.Traced.{Traced}
 use Rattle.trace_views.specs.Verdicts.{listed}
 use Rattle.trace_device.specs.declared.record.DeviceRecord.{DeviceRecord}
 use Rattle.trace_centre.specs.declared.record.CentreRecord.{CentreRecord}
@@ -58,13 +58,13 @@ use Rattle.trace_bench.specs.Seeing.{Audit, SeesRun, sending}
 use Rattle.trace_bench.proofs.Lifting.{TakesNone, takes_none, nothing_taken, lift_told, lift_untold, lift_adds}
 use Rattle.trace_bench.proofs.Seen.{sends_nothing, sees_device, sees_centre, sees_host, sees_verifier}
 
--- what is taken by what the auditor has is taken by the ledger
-pub taken_there : (τ : Tariff) → KeptPrices → IsOfTexts τ → (H : Ledger) (a : Audit) (e : Event) (x : Taken) → SeesRun a H → taken a.messages (quote a.rates) e ≡ Some x → taken (sent_in H) (quote_in τ H) e ≡ Some x
+-- what is routed by what the auditor has is routed by the ledger
+pub taken_there : (τ : Tariff) → KeptPrices → IsOfTexts τ → (H : Ledger) (a : Audit) (e : Event) (x : Routed) → SeesRun a H → routed a.messages (quote a.rates) e ≡ Some x → routed (sent_in H) (quote_in τ H) e ≡ Some x
 taken_there τ prices texts H a e x sees is = taken_by τ prices texts H a.messages a.rates e x sees.day.messages sees.day.rates is
 
 -- an event that is for a node reads no rates
-pub not_for_rates : (pool : List (List ℕ)) (q : Quote) (e : Event) (x : Work) → taken pool q e ≡ Some (take.Work x) → x ≢ work.Rates → e ≢ ev.Rates
-not_for_rates pool q e x is not same = let it : Some (take.Work work.Rates) ≡ Some (take.Work x) = sym (ap (taken pool q) same) ∙ is in not (sym (same_work it))
+pub not_for_rates : (pool : List (List ℕ)) (q : Quote) (e : Event) (x : OfDay) → routed pool q e ≡ Some (route.OfDay x) → x ≢ of_day.Rates → e ≢ ev.Rates
+not_for_rates pool q e x is not same = let it : Some (route.OfDay of_day.Rates) ≡ Some (route.OfDay x) = sym (ap (routed pool q) same) ∙ is in not (sym (same_work it))
 
 module _ (old : Audit) (e : Event) (prices : KeptPrices) (whole : IsWholeEvent e) (today : ℤ) (dated : old.day ≡ Some today) (left line : List ℕ)
     (τ : Tariff) (H : Ledger) (texts : IsOfTexts τ) (history : History τ editions H) (unforged : Unforged e H) (sees : SeesRun old H) where
@@ -84,14 +84,14 @@ module _ (old : Audit) (e : Event) (prices : KeptPrices) (whole : IsWholeEvent e
   as_it_was : (a : Audit) → SeesRun (sending None a) H → SeesRun a H
   as_it_was a = subst (λ (b : Audit). SeesRun b H) (sends_nothing a)
 
-  pub hears_device : (d : ℕ) (asked : Asked DeviceCall) → taken old.messages (quote old.rates) e ≡ Some (take.Work (work.Device d asked)) → (devices : List (Seat DeviceRecord State)) (result : Result GaveOut Reply)
+  pub hears_device : (d : ℕ) (asked : Asked DeviceCall) → routed old.messages (quote old.rates) e ≡ Some (route.OfDay (of_day.Device d asked)) → (devices : List (Traced DeviceRecord State)) (result : Result GaveOut Reply)
       → DeviceJudged d today asked line old.devices devices result → IsHeard τ H e left line (record old { devices = devices }) (heard_of_device result)
   hears_device d asked is devices result judged =
-      subst (λ (l : List (Seat DeviceRecord State)). IsHeard τ H e left line (record old { devices = l }) (heard_of_device result)) (sym judged.set)
-      (by result (judged.by_ledger τ H e history unforged day_is whole (taken_there τ prices texts H old e (take.Work (work.Device d asked)) sees is) tt seen))
+      subst (λ (l : List (Traced DeviceRecord State)). IsHeard τ H e left line (record old { devices = l }) (heard_of_device result)) (sym judged.set)
+      (by result (judged.by_ledger τ H e history unforged day_is whole (taken_there τ prices texts H old e (route.OfDay (of_day.Device d asked)) sees is) tt seen))
     where
       none : TakesNone e (day_in H) left
-      none = takes_none e (day_in H) left (not_for_rates old.messages (quote old.rates) e (work.Device d asked) is (λ same. cc))
+      none = takes_none e (day_in H) left (not_for_rates old.messages (quote old.rates) e (of_day.Device d asked) is (λ same. cc))
 
       seen : view_in (Device d) (bench_kinds.devices.seen d) H ≡ device.view_of judged.before
       seen = ap (λ (k : ℕ). view_in (Device k) (bench_kinds.devices.seen k) H) judged.is_device ∙ sym (sees.devices judged.place judged.before judged.was)
@@ -110,12 +110,12 @@ module _ (old : Audit) (e : Event) (prices : KeptPrices) (whole : IsWholeEvent e
       by (Err due) never = lift_untold τ H e left line none now due never.due_is never.never
           (as_it_was now (sees_device old H H sees None rests unsent d judged.place judged.before judged.now judged.is_device judged.was (sym never.rests) (stays (Device d))))
 
-  pub hears_centre : (asked : Asked CentreCall) → taken old.messages (quote old.rates) e ≡ Some (take.Work (work.Centre asked)) → centres.AreBytes asked → (now : Seat CentreRecord Row) (result : Result (Option (List ℕ)) Reply)
+  pub hears_centre : (asked : Asked CentreCall) → routed old.messages (quote old.rates) e ≡ Some (route.OfDay (of_day.Centre asked)) → centres.AreBytes asked → (now : Traced CentreRecord Row) (result : Result (Option (List ℕ)) Reply)
       → centre_verdicts.IsByLedger today asked line (centre.view_of old.centre) (centre.view_of now) result → IsHeard τ H e left line (record old { centre = now }) (heard_of result)
-  hears_centre asked is bytes now result by_ledger = by result (by_ledger τ H e history unforged day_is whole (taken_there τ prices texts H old e (take.Work (work.Centre asked)) sees is) bytes (sym sees.centre))
+  hears_centre asked is bytes now result by_ledger = by result (by_ledger τ H e history unforged day_is whole (taken_there τ prices texts H old e (route.OfDay (of_day.Centre asked)) sees is) bytes (sym sees.centre))
     where
       none : TakesNone e (day_in H) left
-      none = takes_none e (day_in H) left (not_for_rates old.messages (quote old.rates) e (work.Centre asked) is (λ same. cc))
+      none = takes_none e (day_in H) left (not_for_rates old.messages (quote old.rates) e (of_day.Centre asked) is (λ same. cc))
 
       by : (r : Result (Option (List ℕ)) Reply) → centre_verdicts.MovesBy τ H e line (centre.view_of now) r → IsHeard τ H e left line (record old { centre = now }) (heard_of r)
       by (Ok sent) so = (
@@ -127,14 +127,14 @@ module _ (old : Audit) (e : Event) (prices : KeptPrices) (whole : IsWholeEvent e
       by (Err due) never = lift_untold τ H e left line none (record old { centre = now }) due never.due_is never.never
           (as_it_was (record old { centre = now }) (sees_centre old H H sees None rests unsent now (sym never.rests) (stays Centre)))
 
-  pub hears_host : (asked : Asked HostCall) → taken old.messages (quote old.rates) e ≡ Some (take.Work (work.Host asked)) → (now : Seat HostRecord JobRow) (result : Result Told Reply)
+  pub hears_host : (asked : Asked HostCall) → routed old.messages (quote old.rates) e ≡ Some (route.OfDay (of_day.Host asked)) → (now : Traced HostRecord JobRow) (result : Result PrintOutcome Reply)
       → host_verdicts.IsByLedger today asked line (host.view_of old.host) (host.view_of now) result → IsHeard τ H e left line (record old { host = now }) (heard_of_host result)
-  hears_host asked is now result by_ledger = by result (by_ledger τ H e history unforged day_is whole (taken_there τ prices texts H old e (take.Work (work.Host asked)) sees is) tt (sym sees.host))
+  hears_host asked is now result by_ledger = by result (by_ledger τ H e history unforged day_is whole (taken_there τ prices texts H old e (route.OfDay (of_day.Host asked)) sees is) tt (sym sees.host))
     where
       none : TakesNone e (day_in H) left
-      none = takes_none e (day_in H) left (not_for_rates old.messages (quote old.rates) e (work.Host asked) is (λ same. cc))
+      none = takes_none e (day_in H) left (not_for_rates old.messages (quote old.rates) e (of_day.Host asked) is (λ same. cc))
 
-      by : (r : Result Told Reply) → host_verdicts.MovesBy τ H e line (host.view_of now) r → IsHeard τ H e left line (record old { host = now }) (heard_of_host r)
+      by : (r : Result PrintOutcome Reply) → host_verdicts.MovesBy τ H e line (host.view_of now) r → IsHeard τ H e left line (record old { host = now }) (heard_of_host r)
       by (Ok told) so = (
         so.0,
         lift_told τ H e left line none (sending told.sent (record old { host = now })) so.0 so.1.text so.1.whole so.1.moves (sees_host old H _ sees told.sent so.1.rests so.1.sends now so.1.here so.1.others),
@@ -144,12 +144,12 @@ module _ (old : Audit) (e : Event) (prices : KeptPrices) (whole : IsWholeEvent e
       by (Err due) never = lift_untold τ H e left line none (record old { host = now }) due never.due_is never.never
           (as_it_was (record old { host = now }) (sees_host old H H sees None rests unsent now (sym never.rests) (stays Host)))
 
-  pub hears_verifier : (asked : Asked VerifierCall) → taken old.messages (quote old.rates) e ≡ Some (take.Work (work.Verifier asked)) → verifiers.AreBytes asked → (now : Seat ScanRecord Change) (result : Result (Option (List ℕ)) Reply)
+  pub hears_verifier : (asked : Asked VerifierCall) → routed old.messages (quote old.rates) e ≡ Some (route.OfDay (of_day.Verifier asked)) → verifiers.AreBytes asked → (now : Traced ScanRecord Change) (result : Result (Option (List ℕ)) Reply)
       → verifier_verdicts.IsByLedger today asked line (verifier.view_of old.verifier) (verifier.view_of now) result → IsHeard τ H e left line (record old { verifier = now }) (heard_of result)
-  hears_verifier asked is bytes now result by_ledger = by result (by_ledger τ H e history unforged day_is whole (taken_there τ prices texts H old e (take.Work (work.Verifier asked)) sees is) bytes (sym sees.verifier))
+  hears_verifier asked is bytes now result by_ledger = by result (by_ledger τ H e history unforged day_is whole (taken_there τ prices texts H old e (route.OfDay (of_day.Verifier asked)) sees is) bytes (sym sees.verifier))
     where
       none : TakesNone e (day_in H) left
-      none = takes_none e (day_in H) left (not_for_rates old.messages (quote old.rates) e (work.Verifier asked) is (λ same. cc))
+      none = takes_none e (day_in H) left (not_for_rates old.messages (quote old.rates) e (of_day.Verifier asked) is (λ same. cc))
 
       by : (r : Result (Option (List ℕ)) Reply) → verifier_verdicts.MovesBy τ H e line (verifier.view_of now) r → IsHeard τ H e left line (record old { verifier = now }) (heard_of r)
       by (Ok sent) so = (

@@ -6,7 +6,7 @@ use Rattle.bench_base.specs.declared.events.Event.TheVariants as ev
 use Rattle.bench_base.specs.declared.events.Reply.{Reply}
 use Rattle.bench_base.specs.declared.events.Reply.TheVariants as r
 use Rattle.bench_base.specs.Plans.{Plan}
-use Rattle.bench_base.specs.Replies.{Did, told_by, fails_to_read}
+use Rattle.bench_base.specs.Replies.{Did, class_of, fails_to_read}
 use Rattle.bench_base.specs.Rules.{todays_rules}
 use Rattle.bench_base.specs.Ledger.{Ledger, day_in}
 use Rattle.node_acts.specs.Plans.{Fails, after}
@@ -50,7 +50,7 @@ silent text (Err fail.Form) = record { silent = refl; no_up = λ m k is. cc; no_
 silent text (Err (fail.Memory x)) = record { silent = refl; no_up = λ m k is. cc; no_print = λ j is. cc; adds = λ L. read_adds text (Err (fail.Memory x)) L }
 
 -- an answer doesn't tell that the source failed
-was_read : (text : List ℕ) (x : Result RateTable RatesFail) → fails_to_read (told_by (plan_of text x).reply) ≡ false
+was_read : (text : List ℕ) (x : Result RateTable RatesFail) → fails_to_read (class_of (plan_of text x).reply) ≡ false
 was_read text (Ok x) = refl
 was_read text (Err (fail.Length n)) = refl
 was_read text (Err fail.Toml) = refl
@@ -81,7 +81,7 @@ module _ (τ : Tariff) (H : Ledger) (of : IsOfTexts τ) (today : ℤ) (day : day
   dated = ap is_some day
 
   -- what it takes
-  takes_all : (reply : Reply) → fails_to_read (told_by reply) ≡ false → text_with τ H ev.Rates left line reply ≡ T
+  takes_all : (reply : Reply) → fails_to_read (class_of reply) ≡ false → text_with τ H ev.Rates left line reply ≡ T
   takes_all reply fine = rw (dated, fine) refl
 
   takes_none : text_with τ H ev.Rates left line r.RatesFault ≡ []
@@ -95,12 +95,12 @@ module _ (τ : Tariff) (H : Ledger) (of : IsOfTexts τ) (today : ℤ) (day : day
   kind reply (whole, inl is) =
       let text = text_with τ H ev.Rates left line reply in
       let named : reply ≡ (p text).reply = is ∙ ap (λ (q : Plan). q.reply) (plan_is text) in
-      let fine : fails_to_read (told_by reply) ≡ false = ap (λ (y : Reply). fails_to_read (told_by y)) named ∙ was_read text (answer text) in
+      let fine : fails_to_read (class_of reply) ≡ false = ap (λ (y : Reply). fails_to_read (class_of y)) named ∙ was_read text (answer text) in
       inl (named ∙ ap (λ (t : List ℕ). (p t).reply) (takes_all reply fine) ∙ sym due)
   kind reply (whole, inr (inl up)) = let text = text_with τ H ev.Rates left line reply in absurd ((silent text (answer text)).no_up up.node up.count (sym (ap (λ (q : Plan). q.reply) (plan_is text)) ∙ up.answer_is))
   kind reply (whole, inr (inr (inl fails))) =
       let text = text_with τ H ev.Rates left line reply in
-      absurd (never_fails (p text) (silent text (answer text)) (told_by reply) (subst (λ (q : Plan). Fails q reply) (plan_is text) fails))
+      absurd (never_fails (p text) (silent text (answer text)) (class_of reply) (subst (λ (q : Plan). Fails q reply) (plan_is text) fails))
   kind reply (whole, inr (inr (inr reading))) = inr reading.reply_is
 
   module _ (old new : Audit) (sees : SeesRun old H) (new_is : new ≡ record old { rates = new.rates }) where
@@ -136,7 +136,7 @@ module _ (τ : Tariff) (H : Ledger) (of : IsOfTexts τ) (today : ℤ) (day : day
       adds_none H,
     )
     heard_rates (Ok taken) (read text whole all keeps) =
-        let fine : fails_to_read (told_by (due_of T)) ≡ false = ap (λ (y : Reply). fails_to_read (told_by y)) due ∙ was_read T (answer T) in
+        let fine : fails_to_read (class_of (due_of T)) ≡ false = ap (λ (y : Reply). fails_to_read (class_of y)) due ∙ was_read T (answer T) in
         let text_is = takes_all (due_of T) fine in
         let reply_is : due_of T ≡ answer_in τ todays_rules H ev.Rates T = due ∙ ap (λ (q : Plan). q.reply) (sym (plan_is T)) in
         let after_is : entries τ todays_rules H ev.Rates T (due_of T) ≡ after (p T) (p T).reply H = ap (λ (q : Plan). after q (due_of T) H) (plan_is T) ∙ ap (λ (y : Reply). after (p T) y H) due in (

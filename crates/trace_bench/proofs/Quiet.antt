@@ -5,7 +5,7 @@ use Rattle.bench_base.specs.declared.events.Event.{Event}
 use Rattle.bench_base.specs.declared.events.Reply.{Reply}
 use Rattle.bench_base.specs.declared.events.Reply.TheVariants as r
 use Rattle.bench_base.specs.Plans.{Plan}
-use Rattle.bench_base.specs.Replies.{Told, Did, Refused, Armed, CameOn, WentOff, LostPower, Faulted, WasDamaged, PrinterFailed, RatesFailed, told_by}
+use Rattle.bench_base.specs.Replies.{ReplyClass, Did, Refused, Armed, CameOn, WentOff, LostPower, Faulted, WasDamaged, PrinterFailed, RatesFailed, class_of}
 use Rattle.bench_base.specs.Rules.{todays_rules}
 use Rattle.bench_base.specs.Ranges.{IsWholeEvent}
 use Rattle.bench_base.specs.Ledger.{Ledger, day_in}
@@ -34,7 +34,7 @@ none_some : {X P : Type 0} {o : Option X} (x : X) → o ≡ None → o ≡ Some 
 none_some x none some = let wrong : None ≡ Some x = sym none ∙ some in cc
 
 module _ (p : Plan) (quiet : IsSilent p) where
-  pub never_fails : (t : Told) → FailsTold p t → ⊥
+  pub never_fails : (t : ReplyClass) → FailsTold p t → ⊥
   never_fails Did fails = fails
   never_fails Refused fails = fails
   never_fails (Armed m) fails = fails
@@ -55,7 +55,7 @@ module _ (τ : Tariff) (H : Ledger) (e : Event) (p : Plan) (plan_is : plan τ to
   pub only : (reply : Reply) → Moves τ todays_rules H e [] reply → reply ≡ p.reply
   only reply (whole, inl is) = is ∙ reply_is
   only reply (whole, inr (inl up)) = absurd (quiet.no_up up.node up.count (sym reply_is ∙ up.answer_is))
-  only reply (whole, inr (inr (inl fails))) = absurd (never_fails p quiet (told_by reply) (subst (λ (q : Plan). Fails q reply) plan_is fails))
+  only reply (whole, inr (inr (inl fails))) = absurd (never_fails p quiet (class_of reply) (subst (λ (q : Plan). Fails q reply) plan_is fails))
   only reply (whole, inr (inr (inr reading))) = absurd (reads reply reading)
 
   -- what is heard of it

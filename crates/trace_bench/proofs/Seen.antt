@@ -14,7 +14,7 @@ use Rattle.bench_abstraction.specs.Follows.{OthersStay, Rests}
 use Rattle.bench_abstraction.specs.Kinds.{bench_kinds}
 use Rattle.bench_abstraction.specs.Messages.{sent_in}
 use Rattle.bench.specs.Benches.{HasDay}
-use Rattle.trace_nodes.specs.declared.seat.Seat.{Seat}
+use Rattle.trace_nodes.specs.declared.traced.Traced.{Traced}
 use Rattle.trace_device.specs.declared.record.DeviceRecord.{DeviceRecord}
 use Rattle.trace_device.specs.Records as device
 use Rattle.trace_centre.specs.Cells as centre
@@ -42,7 +42,7 @@ module _ (a : Audit) (H K : Ledger) (sees : SeesRun a H) (sent : Option (List �
     rates = subst (λ t. Keeps t a.rates) (sym rests.rates) sees.day.rates;
   }
 
-  pub sees_device : (d i : ℕ) (before now : Seat DeviceRecord State) → d ≡ i + 1 → slice_get a.devices i ≡ Some before → view_in (Device d) (bench_kinds.devices.seen d) K ≡ device.view_of now → OthersStay bench_kinds (Device d) H K
+  pub sees_device : (d i : ℕ) (before now : Traced DeviceRecord State) → d ≡ i + 1 → slice_get a.devices i ≡ Some before → view_in (Device d) (bench_kinds.devices.seen d) K ≡ device.view_of now → OthersStay bench_kinds (Device d) H K
       → SeesRun (sending sent (record a { devices = slice_set a.devices i now })) K
   sees_device d i before now d_is was here others = record {
     day = day_after;
@@ -95,7 +95,7 @@ pub sends_nothing : (a : Audit) → sending None a ≡ a
 sends_nothing a k = record a { messages = append-nil a.messages k }
 
 -- a device that is settled is put among those that are
-pub set_settled : (devices : List (Seat DeviceRecord State)) (i : ℕ) (now : Seat DeviceRecord State) → i < length devices → AreSettled devices → device.IsSettled now → AreSettled (slice_set devices i now)
+pub set_settled : (devices : List (Traced DeviceRecord State)) (i : ℕ) (now : Traced DeviceRecord State) → i < length devices → AreSettled devices → device.IsSettled now → AreSettled (slice_set devices i now)
 set_settled devices i now lt settled is j s at = ⊎_elim
     (λ (same : j ≡ i). subst device.IsSettled (sym (set_same devices i now s lt (subst (λ (k : ℕ). slice_get (slice_set devices i now) k ≡ Some s) same at))) is)
     (λ (differs : j ≢ i). settled j s (sym (set_other devices i now j differs) ∙ at))

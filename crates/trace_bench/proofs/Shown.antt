@@ -18,4 +18,4 @@ is_some_map f (Some x) = refl
 -- what is said of the device in its place holds of the device as the ledger shows it
 pub device_shown : {B : Type 0} (a : Audit) (H : Ledger) → Sees a H → (d : ℕ) (f : View device.Seen → B) (b : B) → OfDevice d a (λ s. b ≡ f (view_of s))
     → b ≡ f (view_in (Device d) (bench_kinds.devices.seen d) H)
-device_shown a H sees d f b of = of.holds ∙ ap f (sees.run.devices of.place of.seat of.at) ∙ ap (λ (k : ℕ). f (view_in (Device k) (bench_kinds.devices.seen k) H)) (sym of.is_device)
+device_shown a H sees d f b of = of.holds ∙ ap f (sees.run.devices of.place of.traced of.at) ∙ ap (λ (k : ℕ). f (view_in (Device k) (bench_kinds.devices.seen k) H)) (sym of.is_device)

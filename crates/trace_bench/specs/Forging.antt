@@ -99,7 +99,7 @@ IsFoundFor e k = AreFound (brought_by e) k
 
 -- == by what the auditor has ==
 
--- whether bytes that are given to a node are forged: by the seat of the device, the rows of the centre, or what was released; the verifier takes none
+-- whether bytes that are given to a node are forged: by the traced node of the device, the rows of the centre, or what was released; the verifier takes none
 abbrev pub GivesForged : Audit → Node → List ℕ → Bool → Type 0
 GivesForged a (Device d) bytes b = OfDevice d a (λ s. b ≡ forged_reply (seen_of s.record).state d bytes a.known.sent (read bytes))
 GivesForged a Centre bytes b = b ≡ forged_message (books_in (centre_cells.cells_of a.centre.record)) bytes a.known.sent (read bytes)

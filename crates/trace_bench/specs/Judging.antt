@@ -3,7 +3,7 @@ use Rattle.std.specs.Prelude.{◌≡◌, ◌≢◌, ℕ, ℤ, List, [], length, 
 use Rattle.bench_base.specs.declared.events.Event.{Event}
 use Rattle.bench_base.specs.declared.events.Reply.{Reply}
 use Rattle.bench_base.specs.Events.{takes_rates}
-use Rattle.bench_base.specs.Replies.{Told, Did, told_by, fails_to_read}
+use Rattle.bench_base.specs.Replies.{ReplyClass, Did, class_of, fails_to_read}
 use Rattle.bench_base.specs.Rules.{todays_rules, editions}
 use Rattle.bench_base.specs.Ledger.{Ledger, day_in}
 use Rattle.ledger_moves.specs.Tariffs.{Tariff}
@@ -11,7 +11,7 @@ use Rattle.ledger_moves.specs.Moves.{Moves, answer, entries}
 use Rattle.ledger_moves.specs.Histories.{History, Unforged}
 use Rattle.bench_abstraction.specs.Tariff.{IsOfTexts}
 use Rattle.script_text.specs.Texts.{text_of}
-use Rattle.script_text.specs.Told.{IsWholeReply}
+use Rattle.script_text.specs.ReplyRanges.{IsWholeReply}
 use Rattle.trace_bench.specs.declared.judging.Heard.{Heard}
 use Rattle.trace_bench.specs.declared.judging.Finding.{Finding}
 use Rattle.trace_bench.specs.declared.judging.Finding.TheVariants.{Wrong, Memory}
@@ -19,14 +19,14 @@ use Rattle.trace_views.specs.Verdicts.{Adds}
 use Rattle.trace_bench.specs.Seeing.{Audit, Sees, SeesRun, sending}
 
 -- what an event takes of the rates that are left: a `rates` on a day at most 65,537 bytes, unless they can't be read; any other nothing
-abbrev pub taken_by : Event → Option ℤ → Told → List ℕ → List ℕ
+abbrev pub taken_by : Event → Option ℤ → ReplyClass → List ℕ → List ℕ
 taken_by e today told left = if takes_rates e && (is_some today && not (fails_to_read told)) then take 65537 left else []
 
 -- At ledger H, where these rates are left, the report has this line for this event.
 module _ (τ : Tariff) (H : Ledger) (e : Event) (left line : List ℕ) where
   -- what the event takes where it gets this reply
   abbrev pub text_with : Reply → List ℕ
-  text_with reply = taken_by e (day_in H) (told_by reply) left
+  text_with reply = taken_by e (day_in H) (class_of reply) left
 
   -- the event may get this reply there
   abbrev pub MayGet : Reply → Type 0

@@ -7,7 +7,7 @@ pub mod Seeing
 pub mod Stopping
 pub mod Telling
 -- What the functions inside say.
-pub mod Fronts
+pub mod Prefixes
 pub mod Placed
 pub mod Plainly
 pub mod RatesTold

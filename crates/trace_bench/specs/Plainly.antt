@@ -2,9 +2,9 @@
 use Rattle.std.specs.Prelude.{◌≡◌, ◌≢◌, List, ℕ, None, Option, Result, Ok, Err}
 use Rattle.bench_base.specs.declared.events.Reply.{Reply}
 use Rattle.script_text.specs.Texts.{text_of}
-use Rattle.script_text.specs.Told.{IsWholeReply}
+use Rattle.script_text.specs.ReplyRanges.{IsWholeReply}
 use Rattle.trace_nodes.specs.declared.giving.GaveOut.{GaveOut}
-use Rattle.trace_nodes.specs.declared.printing.Told.{Told}
+use Rattle.trace_nodes.specs.declared.printing.PrintOutcome.{PrintOutcome}
 use Rattle.trace_bench.specs.declared.judging.Heard.{Heard}
 use Rattle.trace_bench.specs.declared.judging.Finding.{Finding}
 use Rattle.trace_bench.specs.declared.judging.Finding.TheVariants.{Wrong, Memory}
@@ -34,7 +34,7 @@ abbrev pub heard_of_device : Result GaveOut Reply → Result Heard Finding
 heard_of_device (Ok gave) = Ok (record { sent = gave.sent; released = gave.released; taken = 0 })
 heard_of_device (Err due) = Err (Wrong due)
 
-abbrev pub heard_of_host : Result Told Reply → Result Heard Finding
+abbrev pub heard_of_host : Result PrintOutcome Reply → Result Heard Finding
 heard_of_host (Ok told) = Ok (sent_alone told.sent)
 heard_of_host (Err due) = Err (Wrong due)
 

@@ -10,7 +10,7 @@ use Rattle.verifier.specs.declared.acts.Change.{Change}
 use Rattle.host_rates.specs.Tables.{RateTable}
 use Rattle.bench_abstraction.specs.Kinds.{bench_kinds}
 use Rattle.bench.specs.Benches.{HasDay}
-use Rattle.trace_nodes.specs.declared.seat.Seat.{Seat}
+use Rattle.trace_nodes.specs.declared.traced.Traced.{Traced}
 use Rattle.trace_device.specs.declared.record.DeviceRecord.{DeviceRecord}
 use Rattle.trace_device.specs.Records as device
 use Rattle.trace_centre.specs.declared.record.CentreRecord.{CentreRecord}
@@ -30,10 +30,10 @@ pub record Audit : Type 0 where
   pub day : Option ℤ
   pub messages : List (List ℕ)
   pub rates : Option RateTable
-  pub devices : List (Seat DeviceRecord State)
-  pub centre : Seat CentreRecord Row
-  pub host : Seat HostRecord JobRow
-  pub verifier : Seat ScanRecord Change
+  pub devices : List (Traced DeviceRecord State)
+  pub centre : Traced CentreRecord Row
+  pub host : Traced HostRecord JobRow
+  pub verifier : Traced ScanRecord Change
   pub known : Known
 
 abbrev pub audit_of : Auditor → Audit
@@ -52,8 +52,8 @@ audit_of a = record {
 abbrev pub keeps : Audit → Bool
 keeps a = a.known.is_kept
 
-abbrev pub AreSettled : List (Seat DeviceRecord State) → Type 0
-AreSettled devices = (i : ℕ) (s : Seat DeviceRecord State) → slice_get devices i ≡ Some s → device.IsSettled s
+abbrev pub AreSettled : List (Traced DeviceRecord State) → Type 0
+AreSettled devices = (i : ℕ) (s : Traced DeviceRecord State) → slice_get devices i ≡ Some s → device.IsSettled s
 
 -- eight devices; and no node has an open change while it is on
 pub record IsReady (a : Audit) : Type 0 where
@@ -66,7 +66,7 @@ pub record IsReady (a : Audit) : Type 0 where
 -- what the auditor has of the run and of each node is what the ledger shows: the day, the messages and the rates, and the nodes
 pub record SeesRun (a : Audit) (H : Ledger) : Type 0 where
   pub day : HasDay a.day a.messages a.rates H
-  pub devices : (i : ℕ) (s : Seat DeviceRecord State) → slice_get a.devices i ≡ Some s → device.view_of s ≡ view_in (Device (i + 1)) (bench_kinds.devices.seen (i + 1)) H
+  pub devices : (i : ℕ) (s : Traced DeviceRecord State) → slice_get a.devices i ≡ Some s → device.view_of s ≡ view_in (Device (i + 1)) (bench_kinds.devices.seen (i + 1)) H
   pub centre : centre.view_of a.centre ≡ view_in Centre (bench_kinds.centre.seen tt) H
   pub host : host.view_of a.host ≡ view_in Host (bench_kinds.host.seen tt) H
   pub verifier : verifier.view_of a.verifier ≡ view_in Verifier (bench_kinds.verifier.seen tt) H

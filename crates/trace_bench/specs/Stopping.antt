@@ -10,23 +10,23 @@ use Rattle.bench_base.specs.Ledger.{Ledger, day_in}
 use Rattle.ledger_moves.specs.Tariffs.{Tariff}
 use Rattle.ledger_moves.specs.Moves.{answer}
 use Rattle.script_text.specs.Texts.{text_of}
-use Rattle.script_text.specs.Told.{IsWholeReply}
+use Rattle.script_text.specs.ReplyRanges.{IsWholeReply}
 use Rattle.trace_bench.specs.declared.judging.Finding.{Finding}
 use Rattle.trace_bench.specs.declared.judging.Finding.TheVariants.{Wrong, Memory}
 use Rattle.trace_bench.specs.Judging.{MayGet, ledger_with, taken_by}
 use Rattle.trace_bench.specs.Seeing.{Audit, Sees}
 
 -- they are none, the first or all of the bytes of the text
-abbrev pub IsFrontOf : List ℕ → List ℕ → Type 0
-IsFrontOf front text = (more : List ℕ) × (text ≡ front ++ more)
+abbrev pub IsPrefixOf : List ℕ → List ℕ → Type 0
+IsPrefixOf prefix text = (more : List ℕ) × (text ≡ prefix ++ more)
 
 -- At ledger H, where these rates are left, the report ends with these bytes of the line for this event.
-module _ (τ : Tariff) (H : Ledger) (e : Event) (left front : List ℕ) where
+module _ (τ : Tariff) (H : Ledger) (e : Event) (left prefix : List ℕ) where
   -- the event may get this reply, whose numbers are in range, and whose line begins so
   pub record MayBegin (reply : Reply) : Type 0 where
-    pub moves : MayGet τ H e left front reply
+    pub moves : MayGet τ H e left prefix reply
     pub whole : IsWholeReply reply
-    pub begins : IsFrontOf front (text_of reply)
+    pub begins : IsPrefixOf prefix (text_of reply)
 
   -- this node may have failed in the event
   abbrev pub MayFail : Node → Type 0
@@ -38,7 +38,7 @@ module _ (τ : Tariff) (H : Ledger) (e : Event) (left front : List ℕ) where
 
   -- WHETHER THE EVENT WAS DONE IS IN DOUBT: nothing of the answer stands there; or what stands there may be a failure of a node, or either of two `up`s.
   pub data IsInDoubt : Type 0 where
-    unanswered : front ≡ [] → IsInDoubt
+    unanswered : prefix ≡ [] → IsInDoubt
     failed : (m : Node) → MayFail m → IsInDoubt
     either_up : MayComeOn → IsInDoubt
 
@@ -46,8 +46,8 @@ module _ (τ : Tariff) (H : Ledger) (e : Event) (left front : List ℕ) where
   -- Where that is in doubt, and a node may have failed, it is that in which the node lost its power: it is off, and its commit is open until it comes on. Where none
   -- may have, the event commits nothing, and the auditor has what it had.
   pub data Leaves (a : Audit) : Type 0 where
-    done : (reply : Reply) → MayBegin reply → (IsInDoubt → ⊥) → Sees a (ledger_with τ H e left front reply) → Leaves a
-    torn : (m : Node) → MayFail m → Sees a (ledger_with τ H e left front (r.Power m)) → Leaves a
+    done : (reply : Reply) → MayBegin reply → (IsInDoubt → ⊥) → Sees a (ledger_with τ H e left prefix reply) → Leaves a
+    torn : (m : Node) → MayFail m → Sees a (ledger_with τ H e left prefix (r.Power m)) → Leaves a
     rests : IsInDoubt → ((m : Node) → MayFail m → ⊥) → Sees a H → Leaves a
 
   -- the reply with which the event was done, or none where that is in doubt
@@ -55,13 +55,13 @@ module _ (τ : Tariff) (H : Ledger) (e : Event) (left front : List ℕ) where
   IsDoneWith (Some reply) = MayBegin reply × (IsInDoubt → ⊥)
   IsDoneWith None = IsInDoubt
 
-  -- they are the front of the line of a reply that the event may get
+  -- they are the prefix of the line of a reply that the event may get
   pub record IsBegun (a : Audit) : Type 0 where
     pub reply : Reply
     pub may : MayBegin reply
     pub leaves : Leaves a
 
-  -- they are the front of the line of none; this was the answer, and the auditor has what it had
+  -- they are the prefix of the line of none; this was the answer, and the auditor has what it had
   pub record IsUnbegun (a : Audit) (due : Reply) : Type 0 where
     pub due_is : due ≡ answer τ todays_rules H e (taken_by e (day_in H) Did left)
     pub none : (reply : Reply) → MayBegin reply → ⊥

@@ -34,7 +34,7 @@ use Rattle.bench_abstraction.specs.Devices.{device_act}
 use Rattle.bench_abstraction.specs.Centre.{centre_act}
 use Rattle.bench_abstraction.specs.Comparing.{compared}
 use Rattle.bench_abstraction.specs.Kinds.{bench_kinds}
-use Rattle.trace_nodes.specs.declared.seat.Seat.{Seat}
+use Rattle.trace_nodes.specs.declared.traced.Traced.{Traced}
 use Rattle.trace_device.specs.declared.record.DeviceRecord.{DeviceRecord}
 use Rattle.trace_device.specs.Records.{seen_of}
 use Rattle.trace_centre.specs.Cells as centre_cells
@@ -79,13 +79,13 @@ customer_row_by w c = customer_at (centre.books_in c) w
 
 -- == by what the auditor has ==
 
--- P of the seat of device d, which is the one in its place
-pub record OfDevice (d : ℕ) (a : Audit) (P : Seat DeviceRecord State → Type 0) : Type 0 where
+-- P of the traced node of device d, which is the one in its place
+pub record OfDevice (d : ℕ) (a : Audit) (P : Traced DeviceRecord State → Type 0) : Type 0 where
   pub place : ℕ
   pub is_device : d ≡ place + 1
-  pub seat : Seat DeviceRecord State
-  pub at : slice_get a.devices place ≡ Some seat
-  pub holds : P seat
+  pub traced : Traced DeviceRecord State
+  pub at : slice_get a.devices place ≡ Some traced
+  pub holds : P traced
 
 -- so many commits of the node count
 abbrev pub Counts : Node → Audit → ℕ → Type 0

@@ -13,17 +13,17 @@ use std::alloc::{AllocError, Global};
 use trace_centre::CentreRecord;
 use trace_device::DeviceRecord;
 use trace_host::HostRecord;
-use trace_nodes::Seat;
+use trace_nodes::Traced;
 use trace_verifier::ScanRecord;
 use verifier::Change;
 
 /// What was told of a bench: of eight devices, the centre, the host and the verifier, of the run, and of all messages and marks.
 #[derive(Drop)]
 pub struct Auditor {
-    pub(crate) devices: Vec<Seat<DeviceRecord, DevRec>>,
-    pub(crate) centre: Seat<CentreRecord, Row>,
-    pub(crate) host: Seat<HostRecord, JobRow>,
-    pub(crate) verifier: Seat<ScanRecord, Change>,
+    pub(crate) devices: Vec<Traced<DeviceRecord, DevRec>>,
+    pub(crate) centre: Traced<CentreRecord, Row>,
+    pub(crate) host: Traced<HostRecord, JobRow>,
+    pub(crate) verifier: Traced<ScanRecord, Change>,
     pub(crate) day: Option<DayNo>,
     pub(crate) rates: Option<Rates>,
     pub(crate) messages: Vec<Note>,
@@ -31,10 +31,10 @@ pub struct Auditor {
 }
 
 // A device that wasn't made, and is off.
-fn blank_device() -> Seat<DeviceRecord, DevRec>
+fn blank_device() -> Traced<DeviceRecord, DevRec>
     ensures { IsBlankDevice result }
 {
-    Seat {
+    Traced {
         record: DeviceRecord::blank(),
         open: None,
         on: false,
@@ -42,7 +42,7 @@ fn blank_device() -> Seat<DeviceRecord, DevRec>
 }
 
 // Eight of them.
-fn blank_devices(alloc: Global) -> Result<Vec<Seat<DeviceRecord, DevRec>>, AllocError>
+fn blank_devices(alloc: Global) -> Result<Vec<Traced<DeviceRecord, DevRec>>, AllocError>
     ensures eight { IfOk result (λ devices. length devices.items ≡ 8) }
     ensures blank { IfOk result (λ devices. AreBlank devices.items) }
 {
@@ -62,32 +62,32 @@ fn blank_devices(alloc: Global) -> Result<Vec<Seat<DeviceRecord, DevRec>>, Alloc
     Ok(devices)
 }
 
-fn blank_centre() -> Seat<CentreRecord, Row>
+fn blank_centre() -> Traced<CentreRecord, Row>
     ensures { IsBlankCentre result }
 {
-    Seat {
+    Traced {
         record: CentreRecord::blank(),
         open: None,
         on: false,
     }
 }
 
-fn blank_host(alloc: Global) -> Result<Seat<HostRecord, JobRow>, AllocError>
+fn blank_host(alloc: Global) -> Result<Traced<HostRecord, JobRow>, AllocError>
     ensures { IfOk result IsBlankHost }
 {
     let record = HostRecord::blank(alloc)?;
-    Ok(Seat {
+    Ok(Traced {
         record,
         open: None,
         on: false,
     })
 }
 
-fn blank_verifier(alloc: Global) -> Result<Seat<ScanRecord, Change>, AllocError>
+fn blank_verifier(alloc: Global) -> Result<Traced<ScanRecord, Change>, AllocError>
     ensures { IfOk result IsBlankVerifier }
 {
     let record = ScanRecord::blank(alloc)?;
-    Ok(Seat {
+    Ok(Traced {
         record,
         open: None,
         on: false,
@@ -95,7 +95,7 @@ fn blank_verifier(alloc: Global) -> Result<Seat<ScanRecord, Change>, AllocError>
 }
 
 // Switches the device in this place off.
-fn shut_at(devices: &mut Vec<Seat<DeviceRecord, DevRec>>, place: usize)
+fn shut_at(devices: &mut Vec<Traced<DeviceRecord, DevRec>>, place: usize)
     requires inside { place < length devices.old.items }
     ensures { ShutsAt place devices.old.items devices.new.items }
 {
@@ -103,7 +103,7 @@ fn shut_at(devices: &mut Vec<Seat<DeviceRecord, DevRec>>, place: usize)
 }
 
 // Switches all devices off.
-fn shut_all(devices: &mut Vec<Seat<DeviceRecord, DevRec>>)
+fn shut_all(devices: &mut Vec<Traced<DeviceRecord, DevRec>>)
     ensures { AreShut devices.old.items devices.new.items }
 {
     for place in 0..devices.len() {

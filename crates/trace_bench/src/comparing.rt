@@ -12,13 +12,13 @@ use centre_ledger::{Row, standing_act};
 use psd_state::DevRec;
 use trace_centre::CentreRecord;
 use trace_device::DeviceRecord;
-use trace_nodes::Seat;
+use trace_nodes::Traced;
 
 /// What the device holds beside what the centre says of it. The device answers before the centre.
 pub(crate) fn compare(
     device: DevNo,
-    place: &Seat<DeviceRecord, DevRec>,
-    centre: &Seat<CentreRecord, Row>,
+    place: &Traced<DeviceRecord, DevRec>,
+    centre: &Traced<CentreRecord, Row>,
 ) -> Reply
     ensures { result ≡ compares.compare device (seen_device.view_of place.now) (seen_centre.view_of centre.now) }
 {

@@ -14,12 +14,12 @@ ghost use Rattle.trace_bench.specs.Telling.{OfDevice};
 
 use crate::auditor::Auditor;
 use crate::known::ByteSet;
-use crate::telling::seat_of;
+use crate::telling::traced_of;
+use bench_abstraction::Handed;
 use bench_base::bytes::Note;
 use bench_base::events::Event;
 use bench_base::numbers::DevNo;
 use bench_base::words::Node;
-use bench_abstraction::Handed;
 use centre_ledger::Accounts;
 use hmac_core::ReadyKey;
 use indicium::read_indicium;
@@ -71,10 +71,10 @@ fn is_forged_reply(auditor: &Auditor, device: DevNo, bytes: &[u8]) -> bool
     requires ready { IsReady (audit_of auditor.now) }
     ensures { OfDevice device (audit_of auditor.now) (λ s. result ≡ forging.forged_reply (seen_of s.record).state device bytes.now (audit_of auditor.now).known.sent (read bytes.now)) }
 {
-    let seat = seat_of(&auditor.devices, device);
+    let traced = traced_of(&auditor.devices, device);
     match &read_message(bytes) {
         Ok(Message::Reply(reply)) => reply.device == device.get()
-            && is_unknown_of(&seat.record.state, bytes, &auditor.known.sent),
+            && is_unknown_of(&traced.record.state, bytes, &auditor.known.sent),
         Ok(Message::Request(_))
         | Ok(Message::Done(_))
         | Ok(Message::Debit(_))

@@ -12,12 +12,12 @@ ghost use Rattle.trace_bench.specs.Judging.{AtEach, AtEachRun, IsHeard, IsJudged
 use crate::auditor::Auditor;
 use crate::comparing::compare;
 use crate::rates::judge_rates;
+use bench_abstraction::laws::nodes_follow;
+use bench_abstraction::{CentreCall, DeviceCall, OfDay, Routed, VerifierCall, route};
 use bench_base::bytes::Note;
 use bench_base::events::{Event, Reply};
 use bench_base::numbers::{DayNo, DevNo};
 use call_handlers::{hands_bytes, scans_bytes};
-use bench_abstraction::laws::nodes_follow;
-use bench_abstraction::{CentreCall, DeviceCall, Taken, VerifierCall, Work, take};
 use centre_ledger::Row;
 use host_rates::laws::prices_by_text;
 use node_acts::Asked;
@@ -26,7 +26,7 @@ use std::alloc::Global;
 use trace_centre::{CentreRecord, is_known, judge_centre};
 use trace_device::{DeviceRecord, judge_device};
 use trace_host::judge_host;
-use trace_nodes::{GaveOut, Seat, Told, is_told};
+use trace_nodes::{GaveOut, PrintOutcome, Traced, is_told};
 use trace_verifier::judge_scans;
 
 /// What is found where a line of the report can't be told of its event.
@@ -90,7 +90,7 @@ fn of_device(judged: Result<GaveOut, Reply>) -> Result<Heard, Finding>
 }
 
 // What is heard of the host.
-fn of_host(judged: Result<Told, Reply>) -> Result<Heard, Finding>
+fn of_host(judged: Result<PrintOutcome, Reply>) -> Result<Heard, Finding>
     ensures { result ≡ heard_of_host judged }
 {
     match judged {
@@ -119,7 +119,7 @@ fn of_rates(judged: Result<usize, Finding>) -> Result<Heard, Finding>
 
 // Judges the line of an event of the device in its place.
 fn device_in_place(
-    devices: &mut Vec<Seat<DeviceRecord, DevRec>>,
+    devices: &mut Vec<Traced<DeviceRecord, DevRec>>,
     device: DevNo,
     day: DayNo,
     asked: &Asked<DeviceCall>,
@@ -138,8 +138,8 @@ fn device_in_place(
 // How the device in its place and the centre compare.
 fn compare_in_place(
     device: DevNo,
-    devices: &[Seat<DeviceRecord, DevRec>],
-    centre: &Seat<CentreRecord, Row>,
+    devices: &[Traced<DeviceRecord, DevRec>],
+    centre: &Traced<CentreRecord, Row>,
 ) -> Reply
     requires eight { length devices.now ≡ 8 }
     ensures shows { ComparesInPlace device devices.now centre.now result }
@@ -188,37 +188,37 @@ pub(crate) fn hear(
     prices_by_text();
     is_known(&auditor.centre.record);
     let today = auditor.day;
-    let found = take(event, &auditor.messages, &auditor.rates);
+    let found = route(event, &auditor.messages, &auditor.rates);
     let Some(taken) = &found else {
         unreachable!();
     };
     match taken {
-        Taken::Day(day) => match plain(Reply::Day(*day), line) {
+        Routed::Day(day) => match plain(Reply::Day(*day), line) {
             Ok(heard) => {
                 auditor.day = Some(*day);
                 Ok(heard)
             }
             Err(finding) => Err(finding),
         },
-        Taken::End => plain(Reply::End, line),
-        Taken::Work(work) => match today {
+        Routed::End => plain(Reply::End, line),
+        Routed::OfDay(work) => match today {
             None => plain(Reply::NoDay, line),
             Some(day) => match work {
-                Work::Rates => of_rates(judge_rates(alloc, &mut auditor.rates, left, line)),
-                Work::NoMessage(number) => plain(Reply::NoMessage(*number), line),
-                Work::Reconcile(device) => {
+                OfDay::Rates => of_rates(judge_rates(alloc, &mut auditor.rates, left, line)),
+                OfDay::NoMessage(number) => plain(Reply::NoMessage(*number), line),
+                OfDay::Reconcile(device) => {
                     let due = compare_in_place(*device, &auditor.devices, &auditor.centre);
                     plain(due, line)
                 }
-                Work::Device(device, asked) => {
+                OfDay::Device(device, asked) => {
                     of_device(device_in_place(&mut auditor.devices, *device, day, asked, line))
                 }
-                Work::Centre(asked) => {
+                OfDay::Centre(asked) => {
                     hands_centre(asked);
                     of_node(judge_centre(&mut auditor.centre, day, asked, line))
                 }
-                Work::Host(asked) => of_host(judge_host(&mut auditor.host, day, asked, line)),
-                Work::Verifier(asked) => {
+                OfDay::Host(asked) => of_host(judge_host(&mut auditor.host, day, asked, line)),
+                OfDay::Verifier(asked) => {
                     hands_verifier(asked);
                     of_node(judge_scans(&mut auditor.verifier, day, asked, line))
                 }

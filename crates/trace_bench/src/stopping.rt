@@ -1,4 +1,4 @@
-//! Where a report ends before the line end of an answer: whether what stands there of it can be the front of a reply, and how the event is told then.
+//! Where a report ends before the line end of an answer: whether what stands there of it can be the prefix of a reply, and how the event is told then.
 ghost use Rattle.std.specs.Prelude.{◌≡◌, ◌↔◌, ◌+◌, ◌<◌, ◌≤◌, ℕ, List, IsTrue, IsOk, IsSome, MatchBool, IfOk, OnOk, Ok, length, true, false};
 ghost use Rattle.bench_base.specs.declared.events.Reply.{Reply};
 ghost use Rattle.bench_base.specs.Ledger.{Ledger};
@@ -6,11 +6,11 @@ ghost use Rattle.bench_base.specs.Ranges.{IsNode, IsWholeEvent};
 ghost use Rattle.bench.specs.declared.benches.TheConstants.{MOST_MESSAGES};
 ghost use Rattle.ledger_moves.specs.Tariffs.{Tariff};
 ghost use Rattle.script_text.specs.Texts.{text_of};
-ghost use Rattle.script_text.specs.Told.{IsWholeReply};
-ghost use Rattle.trace_bench.specs.Fronts.{number_of, IsFound, BeginsOtherUp, BeginsCutPrint, BeginsRatesFault, BeginsBothUps, BeginsFailure, IsDue, Comes, LosesAt, LosesThere, Loses};
+ghost use Rattle.script_text.specs.ReplyRanges.{IsWholeReply};
+ghost use Rattle.trace_bench.specs.Prefixes.{number_of, IsFound, BeginsOtherUp, BeginsCutPrint, BeginsRatesFault, BeginsBothUps, BeginsFailure, IsDue, Comes, LosesAt, LosesThere, Loses};
 ghost use Rattle.trace_bench.specs.Judging.{AtEach, IsTold};
 ghost use Rattle.trace_bench.specs.Seeing.{IsReady, Sees, audit_of, keeps};
-ghost use Rattle.trace_bench.specs.Stopping.{IsFrontOf, IsStopped};
+ghost use Rattle.trace_bench.specs.Stopping.{IsPrefixOf, IsStopped};
 
 use crate::auditor::Auditor;
 use crate::judging::{Finding, hear, judge, send};
@@ -22,21 +22,21 @@ use script_text::{Line, put_reply};
 use std::alloc::{AllocError, Global};
 
 /// Whether the line of this reply begins so, or is so.
-pub fn begins(reply: &Reply, front: &[u8]) -> bool
-    ensures exact { IsTrue result ↔ IsFrontOf front.now (text_of reply.now) }
+pub fn begins(reply: &Reply, prefix: &[u8]) -> bool
+    ensures exact { IsTrue result ↔ IsPrefixOf prefix.now (text_of reply.now) }
     ensures whole { IsWholeReply reply.now }
-    ensures short { result ≡ true → length front.now ≤ 256 }
+    ensures short { result ≡ true → length prefix.now ≤ 256 }
 {
     let mut text = Line::new();
     put_reply(&mut text, reply);
-    text.as_slice().starts_with(front)
+    text.as_slice().starts_with(prefix)
 }
 
 // The node's other `up`, with its open commit, where this is the answer, if it begins so.
-fn other_up(auditor: &Auditor, due: &Reply, front: &[u8]) -> Option<Reply>
+fn other_up(auditor: &Auditor, due: &Reply, prefix: &[u8]) -> Option<Reply>
     requires ready { IsReady (audit_of auditor.now) }
-    ensures exact { (H : Ledger) → Sees (audit_of auditor.now) H → IsFound (BeginsOtherUp due.now H front.now) result }
-    ensures short { IsSome result → length front.now ≤ 256 }
+    ensures exact { (H : Ledger) → Sees (audit_of auditor.now) H → IsFound (BeginsOtherUp due.now H prefix.now) result }
+    ensures short { IsSome result → length prefix.now ≤ 256 }
 {
     let Reply::Up { node, commits } = due else {
         return None;
@@ -51,19 +51,19 @@ fn other_up(auditor: &Auditor, due: &Reply, front: &[u8]) -> Option<Reply>
         node: *node,
         commits: more,
     };
-    if begins(&up, front) { Some(up) } else { None }
+    if begins(&up, prefix) { Some(up) } else { None }
 }
 
 // A failure of the printer, where this is the answer, if it begins so.
-fn cut_print(due: &Reply, front: &[u8]) -> Option<Reply>
-    ensures exact { IsFound (BeginsCutPrint due.now front.now) result }
-    ensures short { IsSome result → length front.now ≤ 256 }
+fn cut_print(due: &Reply, prefix: &[u8]) -> Option<Reply>
+    ensures exact { IsFound (BeginsCutPrint due.now prefix.now) result }
+    ensures short { IsSome result → length prefix.now ≤ 256 }
 {
     let Reply::Printed(job) = due else {
         return None;
     };
     let fault = Reply::PrinterFault(*job);
-    if begins(&fault, front) {
+    if begins(&fault, prefix) {
         Some(fault)
     } else {
         None
@@ -71,14 +71,14 @@ fn cut_print(due: &Reply, front: &[u8]) -> Option<Reply>
 }
 
 // A failure of the rates, if it begins so.
-fn rates_fault(event: &Event, day: Option<DayNo>, front: &[u8]) -> Option<Reply>
-    ensures exact { IsFound (BeginsRatesFault event.now day front.now) result }
-    ensures short { IsSome result → length front.now ≤ 256 }
+fn rates_fault(event: &Event, day: Option<DayNo>, prefix: &[u8]) -> Option<Reply>
+    ensures exact { IsFound (BeginsRatesFault event.now day prefix.now) result }
+    ensures short { IsSome result → length prefix.now ≤ 256 }
 {
     let Event::Rates = event else {
         return None;
     };
-    if day.is_some() && begins(&Reply::RatesFault, front) {
+    if day.is_some() && begins(&Reply::RatesFault, prefix) {
         Some(Reply::RatesFault)
     } else {
         None
@@ -86,30 +86,30 @@ fn rates_fault(event: &Event, day: Option<DayNo>, front: &[u8]) -> Option<Reply>
 }
 
 // A reply that begins so and is no failure of a node, where this is the answer.
-fn begun(auditor: &Auditor, event: &Event, due: &Reply, front: &[u8]) -> Option<Reply>
+fn begun(auditor: &Auditor, event: &Event, due: &Reply, prefix: &[u8]) -> Option<Reply>
     requires whole { IsWholeEvent event.now }
     requires ready { IsReady (audit_of auditor.now) }
-    ensures exact { (τ : Tariff) (H : Ledger) (left : List ℕ) → Sees (audit_of auditor.now) H → IsDue τ H event.now left due.now → Comes τ H event.now left front.now result }
-    ensures short { IsSome result → length front.now ≤ 256 }
+    ensures exact { (τ : Tariff) (H : Ledger) (left : List ℕ) → Sees (audit_of auditor.now) H → IsDue τ H event.now left due.now → Comes τ H event.now left prefix.now result }
+    ensures short { IsSome result → length prefix.now ≤ 256 }
 {
-    if begins(due, front) {
+    if begins(due, prefix) {
         return Some(*due);
     }
-    if let Some(up) = other_up(auditor, due, front) {
+    if let Some(up) = other_up(auditor, due, prefix) {
         return Some(up);
     }
-    if let Some(fault) = cut_print(due, front) {
+    if let Some(fault) = cut_print(due, prefix) {
         return Some(fault);
     }
-    rates_fault(event, auditor.day, front)
+    rates_fault(event, auditor.day, prefix)
 }
 
 // Whether both `up`s of the node begin so, where this is the answer: it may have come on with its open commit, or without.
-fn begins_both_ups(auditor: &Auditor, due: &Reply, front: &[u8]) -> bool
+fn begins_both_ups(auditor: &Auditor, due: &Reply, prefix: &[u8]) -> bool
     requires ready { IsReady (audit_of auditor.now) }
-    ensures exact { (H : Ledger) → Sees (audit_of auditor.now) H → MatchBool result (BeginsBothUps due.now H front.now) (BeginsBothUps due.now H front.now → ⊥) }
+    ensures exact { (H : Ledger) → Sees (audit_of auditor.now) H → MatchBool result (BeginsBothUps due.now H prefix.now) (BeginsBothUps due.now H prefix.now → ⊥) }
 {
-    begins(due, front) && other_up(auditor, due, front).is_some()
+    begins(due, prefix) && other_up(auditor, due, prefix).is_some()
 }
 
 /// The answer that is due to the event, which the auditor leaves as it was: no reply has a line end in its line. AllocError is lack of memory, for rates or a message.
@@ -182,11 +182,11 @@ fn node_at(number: u32) -> Node
 }
 
 // Whether a failure of this node begins so.
-fn begins_failure(node: &Node, front: &[u8]) -> bool
-    ensures exact { MatchBool result (BeginsFailure front.now node.now) (BeginsFailure front.now node.now → ⊥) }
-    ensures short { result ≡ true → length front.now ≤ 256 }
+fn begins_failure(node: &Node, prefix: &[u8]) -> bool
+    ensures exact { MatchBool result (BeginsFailure prefix.now node.now) (BeginsFailure prefix.now node.now → ⊥) }
+    ensures short { result ≡ true → length prefix.now ≤ 256 }
 {
-    begins(&Reply::Power(*node), front) || begins(&Reply::Fault(*node), front)
+    begins(&Reply::Power(*node), prefix) || begins(&Reply::Fault(*node), prefix)
 }
 
 // Tells the event as one in which this node lost its power, if a failure of the node begins so, and it may be told so. True if and only if both hold.
@@ -195,7 +195,7 @@ fn lose_power_there(
     auditor: &mut Auditor,
     event: &Event,
     left: &[u8],
-    front: &[u8],
+    prefix: &[u8],
     node: &Node,
 ) -> Result<bool, AllocError>
     requires whole { IsWholeEvent event.now }
@@ -206,10 +206,10 @@ fn lose_power_there(
     ensures kept { keeps (audit_of auditor.new) ≡ keeps (audit_of auditor.old) }
     ensures few { length (audit_of auditor.new).messages ≤ length (audit_of auditor.old).messages + 1 }
     ensures unsent { IfOk result (λ b. b ≡ false → (audit_of auditor.new).messages ≡ (audit_of auditor.old).messages) }
-    ensures lost { AtEach (audit_of auditor.old) event.now (λ τ H. IfOk result (λ b. LosesThere τ H event.now left.now front.now node.now (audit_of auditor.new) b)) }
-    ensures short { result ≡ Ok true → length front.now ≤ 256 }
+    ensures lost { AtEach (audit_of auditor.old) event.now (λ τ H. IfOk result (λ b. LosesThere τ H event.now left.now prefix.now node.now (audit_of auditor.new) b)) }
+    ensures short { result ≡ Ok true → length prefix.now ≤ 256 }
 {
-    if begins_failure(node, front) {
+    if begins_failure(node, prefix) {
         lose_power_at(alloc, auditor, event, left, node)
     } else {
         Ok(false)
@@ -222,7 +222,7 @@ fn lose_power(
     auditor: &mut Auditor,
     event: &Event,
     left: &[u8],
-    front: &[u8],
+    prefix: &[u8],
 ) -> Result<bool, AllocError>
     requires whole { IsWholeEvent event.now }
     requires ready { IsReady (audit_of auditor.old) }
@@ -231,12 +231,12 @@ fn lose_power(
     ensures kept { keeps (audit_of auditor.new) ≡ keeps (audit_of auditor.old) }
     ensures few { length (audit_of auditor.new).messages ≤ length (audit_of auditor.old).messages + 1 }
     ensures unsent { IfOk result (λ b. b ≡ false → (audit_of auditor.new).messages ≡ (audit_of auditor.old).messages) }
-    ensures lost { AtEach (audit_of auditor.old) event.now (λ τ H. IfOk result (λ b. Loses τ H event.now left.now front.now (audit_of auditor.new) b)) }
-    ensures short { result ≡ Ok true → length front.now ≤ 256 }
+    ensures lost { AtEach (audit_of auditor.old) event.now (λ τ H. IfOk result (λ b. Loses τ H event.now left.now prefix.now (audit_of auditor.new) b)) }
+    ensures short { result ≡ Ok true → length prefix.now ≤ 256 }
 {
     for number in 1..12 {
         let node = node_at(number);
-        if lose_power_there(alloc, auditor, event, left, front, &node)? {
+        if lose_power_there(alloc, auditor, event, left, prefix, &node)? {
             return Ok(true);
         }
     }
@@ -268,17 +268,17 @@ fn tell_done(
 }
 
 /// Judges bytes that a report ends with, where the line of this event should stand: none, some or all of it, without its line end. `Ok` if and only if they are
-/// the front of the line of a reply that the event may get. A reply comes after its event, so the event was done, and is told with a reply that begins so: this one.
+/// the prefix of the line of a reply that the event may get. A reply comes after its event, so the event was done, and is told with a reply that begins so: this one.
 /// None is where that is in doubt, since nothing stands there, or a failure of a node begins so, or either of its `up`s. The event is then told as one in which
 /// its node lost its power, where it may be told so: the next `up` says whether its commit counts. `Wrong`, with the answer that was due, if and only if they are the
-/// front of none; the auditor has what it had. More than 256 bytes are never the front of one, whatever the auditor has. `Memory` is lack of memory, for rates, a
+/// prefix of none; the auditor has what it had. More than 256 bytes are never the prefix of one, whatever the auditor has. `Memory` is lack of memory, for rates, a
 /// message or a mark.
 pub fn stop(
     alloc: Global,
     auditor: &mut Auditor,
     event: &Event,
     left: &[u8],
-    front: &[u8],
+    prefix: &[u8],
 ) -> Result<Option<Reply>, Finding>
     requires whole { IsWholeEvent event.now }
     requires ready { IsReady (audit_of auditor.old) }
@@ -286,22 +286,22 @@ pub fn stop(
     ensures ready { IsReady (audit_of auditor.new) }
     ensures kept { keeps (audit_of auditor.new) ≡ keeps (audit_of auditor.old) }
     ensures few { length (audit_of auditor.new).messages ≤ length (audit_of auditor.old).messages + 1 }
-    ensures stopped { AtEach (audit_of auditor.old) event.now (λ τ H. IsStopped τ H event.now left.now front.now (audit_of auditor.new) result) }
-    ensures short { IsOk result → length front.now ≤ 256 }
+    ensures stopped { AtEach (audit_of auditor.old) event.now (λ τ H. IsStopped τ H event.now left.now prefix.now (audit_of auditor.new) result) }
+    ensures short { IsOk result → length prefix.now ≤ 256 }
 {
     let Ok(due) = due_to(alloc, auditor, event, left) else {
         return Err(Finding::Memory);
     };
-    let Ok(is_lost) = lose_power(alloc, auditor, event, left, front) else {
+    let Ok(is_lost) = lose_power(alloc, auditor, event, left, prefix) else {
         return Err(Finding::Memory);
     };
     if is_lost {
         return Ok(None);
     }
-    let Some(reply) = begun(auditor, event, &due, front) else {
+    let Some(reply) = begun(auditor, event, &due, prefix) else {
         return Err(Finding::Wrong(due));
     };
-    if front.is_empty() || begins_both_ups(auditor, &due, front) {
+    if prefix.is_empty() || begins_both_ups(auditor, &due, prefix) {
         return Ok(None);
     }
     match tell_done(alloc, auditor, event, left, &reply) {

@@ -14,19 +14,19 @@ ghost use Rattle.trace_bench.specs.Telling.{OfDevice, Counts, Opens, done_by, st
 ghost use Rattle.trace_bench.specs.Telling.{device_in, centre_in, host_in, count_in, SaysStatus, SaysBalance};
 
 use crate::auditor::Auditor;
+use bench_abstraction::laws::nodes_follow;
+use bench_abstraction::{BalanceCall, CentreCall, DeviceCall};
 use bench_base::events::{DevView, Reply};
 use bench_base::numbers::{Customer, DayNo, DevNo};
 use bench_base::words::Node;
 use call_handlers::compared;
-use bench_abstraction::laws::nodes_follow;
-use bench_abstraction::{BalanceCall, CentreCall, DeviceCall};
 use centre_ledger::{CustomerRow, DeviceRow, standing_act};
 use host_jobs::JobsOf;
 use node_acts::{Act, Said};
 use psd_state::{DevRec, ReadyRecord};
 use trace_centre::{CentreRecord, centre_act};
 use trace_device::{DeviceRecord, device_act, is_known};
-use trace_nodes::{Record, Seat};
+use trace_nodes::{Record, Traced};
 
 // The reply of an act that is done.
 fn done<X>(act: &Act<X, Reply, Said>) -> Option<Reply>
@@ -48,11 +48,11 @@ fn shown(state: &Option<ReadyRecord>, day: DayNo) -> Option<DevView>
     }
 }
 
-// The seat of the device.
-pub(crate) fn seat_of(
-    devices: &[Seat<DeviceRecord, DevRec>],
+// The traced node of the device.
+pub(crate) fn traced_of(
+    devices: &[Traced<DeviceRecord, DevRec>],
     device: DevNo,
-) -> &Seat<DeviceRecord, DevRec>
+) -> &Traced<DeviceRecord, DevRec>
     requires eight { length devices.now ≡ 8 }
     ensures at { slice_get devices.now (device - 1) ≡ Some result.now }
     ensures named { device ≡ device - 1 + 1 }
@@ -79,9 +79,9 @@ impl Auditor {
     {
         // What is seen of the nodes follows from the ledger.
         nodes_follow();
-        let seat = seat_of(&self.devices, device);
-        is_known(&seat.record);
-        done(&device_act(device, day, &DeviceCall::Status, &seat.record.state))
+        let traced = traced_of(&self.devices, device);
+        is_known(&traced.record);
+        done(&device_act(device, day, &DeviceCall::Status, &traced.record.state))
     }
 
     /// What the centre answers to `balance` where it is on, in mills, by the commits that count. None if and only if the customer is not open.
@@ -105,8 +105,8 @@ impl Auditor {
         ensures by_record { OfDevice device (audit_of self.now) (λ s. result ≡ shown_by day (seen_of s.record)) }
         ensures by_ledger { (H : Ledger) → Sees (audit_of self.now) H → result ≡ shown_by day (device_in device H) }
     {
-        let seat = seat_of(&self.devices, device);
-        shown(&seat.record.state, day)
+        let traced = traced_of(&self.devices, device);
+        shown(&traced.record.state, day)
     }
 
     /// What the customer has left, in mills, by the commits that count, and 0 where it is not open.
@@ -123,10 +123,10 @@ impl Auditor {
         ensures by_record { OfDevice device (audit_of self.now) (λ s. result ≡ reconcile_by device (seen_of s.record) (cells_of (audit_of self.now).centre.record)) }
         ensures by_ledger { (H : Ledger) → Sees (audit_of self.now) H → result ≡ reconcile_by device (device_in device H) (centre_in H) }
     {
-        let seat = seat_of(&self.devices, device);
+        let traced = traced_of(&self.devices, device);
         compared(
             device,
-            &seat.record.state,
+            &traced.record.state,
             standing_act(device, self.centre.record.accounts()),
         )
     }
@@ -169,7 +169,7 @@ impl Auditor {
         ensures by_ledger { (H : Ledger) → Sees (audit_of self.now) H → result ≡ count_in node.now H }
     {
         match node {
-            Node::Device(device) => seat_of(&self.devices, *device).record.commits(),
+            Node::Device(device) => traced_of(&self.devices, *device).record.commits(),
             Node::Centre => self.centre.record.commits(),
             Node::Host => self.host.record.commits(),
             Node::Verifier => self.verifier.record.commits(),
@@ -183,7 +183,7 @@ impl Auditor {
         ensures by_ledger { (H : Ledger) → Sees (audit_of self.now) H → result ≡ is_some (torn_of node.now H) }
     {
         match node {
-            Node::Device(device) => seat_of(&self.devices, *device).open.is_some(),
+            Node::Device(device) => traced_of(&self.devices, *device).open.is_some(),
             Node::Centre => self.centre.open.is_some(),
             Node::Host => self.host.open.is_some(),
             Node::Verifier => self.verifier.open.is_some(),

@@ -7,7 +7,7 @@ use Rattle.node_acts.specs.declared.asked.Asked.{Asked}
 use Rattle.node_acts.specs.Views.{View}
 use Rattle.centre_ledger.specs.Seen.{Seen, counting, books_in, IsKnown}
 use Rattle.bench_abstraction.specs.declared.calls.CentreCall.{CentreCall}
-use Rattle.bench_abstraction.specs.declared.taken.Work.TheVariants as work
+use Rattle.bench_abstraction.specs.declared.routing.OfDay.TheVariants as of_day
 use Rattle.bench_abstraction.specs.Centre.{centre_kind, centre_act, AreBytes}
 use Rattle.bench_abstraction.specs.Follows.{CentreFollows}
 use Rattle.bench_abstraction.specs.Kinds.{bench_kinds}
@@ -21,9 +21,9 @@ by_acts today v call = (centre_act call (books_in v.state), refl, call_plain cal
 unreleasing : AreUnreleasing counting centre_kind Centre tt
 unreleasing today v call = (centre_act call (books_in v.state), refl, call_releases call (books_in v.state))
 
-no_rates : (asked : Asked CentreCall) → work.Centre asked ≢ work.Rates
+no_rates : (asked : Asked CentreCall) → of_day.Centre asked ≢ of_day.Rates
 no_rates asked is = cc
 
 pub by_ledger : (today : ℤ) (asked : Asked CentreCall) (line : List ℕ) (v w : View Seen) (result : Result (Option (List ℕ)) Reply) → CentreFollows counting bench_kinds IsKnown
     → IsKnown v.state → IfSome (commit_in today asked v) (λ x. IsKnown x.1) → IsByView today asked line v w result → IsByLedger today asked line v w result
-by_ledger today asked line v w result law known next judged = lifts counting centre_kind Centre tt by_acts work.Centre no_rates AreBytes IsKnown law today asked line v w known next unreleasing result judged
+by_ledger today asked line v w result law known next judged = lifts counting centre_kind Centre tt by_acts of_day.Centre no_rates AreBytes IsKnown law today asked line v w known next unreleasing result judged

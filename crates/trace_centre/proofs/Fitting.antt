@@ -4,7 +4,7 @@ use Rattle.std.specs.Prelude.{IfSome}
 use Rattle.bench_base.specs.declared.words.Node.TheVariants.{Centre}
 use Rattle.bench_base.specs.declared.events.Reply.{Reply}
 use Rattle.bench_base.specs.declared.events.Reply.TheVariants as r
-use Rattle.bench_base.specs.Replies.{Did, told_by}
+use Rattle.bench_base.specs.Replies.{Did, class_of}
 use Rattle.node_acts.specs.declared.act.Act.{Act}
 use Rattle.node_acts.specs.declared.said.Said.{Said}
 use Rattle.node_acts.specs.Acts.{commit_of}
@@ -27,7 +27,7 @@ use Rattle.bench_abstraction.specs.declared.calls.CentreCall.TheVariants as call
 use Rattle.bench_abstraction.specs.Centre.{centre_act}
 use Rattle.trace_nodes.specs.Judged.{PrintsNone}
 use Rattle.trace_nodes.specs.Giving.{released_as, ReleasesNone}
-use Rattle.trace_nodes.specs.Seats.{FitsAct}
+use Rattle.trace_nodes.specs.TracedNodes.{FitsAct}
 use Rattle.trace_centre.specs.Placed.{PlacesAct}
 use Rattle.trace_centre.specs.Records.{IsFit, IsRanged}
 use Rattle.trace_centre.proofs.Kept.{put_known}
@@ -48,7 +48,7 @@ own_by b act leaves = of_commit _ _ act leaves (λ c x left. left.1)
 
 -- == what it says ==
 
-took_did : (k : ℕ) (a : CentreAnswer) → told_by (told_taken k a).reply ≡ Did
+took_did : (k : ℕ) (a : CentreAnswer) → class_of (told_taken k a).reply ≡ Did
 took_did k (answer.Ruled d n v note again) = refl
 took_did k (answer.Settled d n again) = refl
 

@@ -10,7 +10,7 @@ use Rattle.node_acts.specs.Views.{View}
 use Rattle.centre_ledger.specs.Seen.{Seen, counting}
 use Rattle.ledger_moves.specs.Tariffs.{Tariff}
 use Rattle.bench_abstraction.specs.declared.calls.CentreCall.{CentreCall}
-use Rattle.bench_abstraction.specs.declared.taken.Work.TheVariants as work
+use Rattle.bench_abstraction.specs.declared.routing.OfDay.TheVariants as of_day
 use Rattle.bench_abstraction.specs.Centre.{centre_kind, AreBytes}
 use Rattle.trace_views.specs.Verdicts as views
 
@@ -25,4 +25,4 @@ abbrev pub MovesBy : Tariff → Ledger → Event → List ℕ → View Seen → 
 MovesBy = views.MovesBy counting centre_kind Centre tt
 
 abbrev pub IsByLedger : ℤ → Asked CentreCall → List ℕ → View Seen → View Seen → Result (Option (List ℕ)) Reply → Type 0
-IsByLedger = views.IsByLedger counting centre_kind Centre tt work.Centre AreBytes
+IsByLedger = views.IsByLedger counting centre_kind Centre tt of_day.Centre AreBytes

@@ -6,9 +6,9 @@ ghost use Rattle.trace_centre.specs.Cells.{cells_of};
 ghost use Rattle.trace_centre.specs.Placed.{PlacesAct};
 
 use crate::record::{CentreRecord, cell_of};
+use bench_abstraction::CentreCall;
 use bench_base::events::Reply;
 use call_handlers::CentreCallee;
-use bench_abstraction::CentreCall;
 use centre_ledger::Row;
 use node_acts::{Act, Said};
 use trace_nodes::said_act;

@@ -7,15 +7,15 @@ ghost use Rattle.trace_centre.specs.Verdicts.{IsByView, IsByLedger, commit_in};
 
 use crate::acts::{centre_act, places_act};
 use crate::record::CentreRecord;
+use bench_abstraction::CentreCall;
+use bench_abstraction::laws::nodes_follow;
 use bench_base::bytes::Note;
 use bench_base::events::Reply;
 use bench_base::numbers::DayNo;
 use bench_base::words::Node;
-use bench_abstraction::CentreCall;
-use bench_abstraction::laws::nodes_follow;
 use centre_ledger::{BooksOf, Row, acts_follow_the_commits};
 use node_acts::Asked;
-use trace_nodes::{Seat, judge_call, judge_cut, judge_off, judge_on};
+use trace_nodes::{Traced, judge_call, judge_cut, judge_off, judge_on};
 
 /// A record is one that storage can show.
 pub fn is_known(kept: &CentreRecord)
@@ -27,46 +27,46 @@ pub fn is_known(kept: &CentreRecord)
 
 // By what is seen of the centre; and its record, and that after a commit, are ones that storage can show.
 fn judge_view(
-    seat: &mut Seat<CentreRecord, Row>,
+    traced: &mut Traced<CentreRecord, Row>,
     day: DayNo,
     asked: &Asked<CentreCall>,
     line: &[u8],
 ) -> Result<Option<Note>, Reply>
-    requires settled { IsSettled seat.old }
+    requires settled { IsSettled traced.old }
     requires ranged { IsRangedAsked asked.now }
-    ensures settled { IsSettled seat.new }
-    ensures judged { IsByView day asked.now line.now (view_of seat.old) (view_of seat.new) result }
-    ensures known { IsKnown (cells_of seat.old.record) }
-    ensures next { IfSome (commit_in day asked.now (view_of seat.old)) (λ x. IsKnown x.1) }
+    ensures settled { IsSettled traced.new }
+    ensures judged { IsByView day asked.now line.now (view_of traced.old) (view_of traced.new) result }
+    ensures known { IsKnown (cells_of traced.old.record) }
+    ensures next { IfSome (commit_in day asked.now (view_of traced.old)) (λ x. IsKnown x.1) }
 {
     acts_follow_the_commits();
-    is_known(&seat.record);
+    is_known(&traced.record);
     let name = Node::Centre;
     match asked {
-        Asked::On => judge_on(seat, &name, line),
-        Asked::Off => judge_off(seat, &name, line),
-        Asked::Cut(_, _, _) => judge_cut(seat, &name, line),
+        Asked::On => judge_on(traced, &name, line),
+        Asked::Off => judge_off(traced, &name, line),
+        Asked::Cut(_, _, _) => judge_cut(traced, &name, line),
         Asked::Call(call) => {
-            let act = centre_act(call, &seat.record);
+            let act = centre_act(call, &traced.record);
             places_act(&act);
-            judge_call(seat, &name, &act, line)
+            judge_call(traced, &name, &act, line)
         }
     }
 }
 
 /// Judges the line of an event that asks this of the centre on that day: as `judge_device` of trace_device.
 pub fn judge_centre(
-    seat: &mut Seat<CentreRecord, Row>,
+    traced: &mut Traced<CentreRecord, Row>,
     day: DayNo,
     asked: &Asked<CentreCall>,
     line: &[u8],
 ) -> Result<Option<Note>, Reply>
-    requires settled { IsSettled seat.old }
+    requires settled { IsSettled traced.old }
     requires ranged { IsRangedAsked asked.now }
-    ensures settled { IsSettled seat.new }
-    ensures by_view { IsByView day asked.now line.now (view_of seat.old) (view_of seat.new) result }
-    ensures by_ledger { IsByLedger day asked.now line.now (view_of seat.old) (view_of seat.new) result }
+    ensures settled { IsSettled traced.new }
+    ensures by_view { IsByView day asked.now line.now (view_of traced.old) (view_of traced.new) result }
+    ensures by_ledger { IsByLedger day asked.now line.now (view_of traced.old) (view_of traced.new) result }
 {
     nodes_follow();
-    judge_view(seat, day, asked, line)
+    judge_view(traced, day, asked, line)
 }

@@ -1,7 +1,7 @@
 -- The acts of a device's calls: what they may be told as, and what they print.
 use Rattle.std.proofs.Common.{◌≡◌, ◌≢◌, ℕ, ℤ, Option, refl}
 use Rattle.bench_base.specs.declared.events.Reply.TheVariants as r
-use Rattle.bench_base.specs.Replies.{Did, told_by}
+use Rattle.bench_base.specs.Replies.{Did, class_of}
 use Rattle.bench_base.specs.Rules.{todays_rules}
 use Rattle.node_acts.specs.Said.{IsPlain}
 use Rattle.ledger_moves.specs.Moves.{debit_by}
@@ -15,7 +15,7 @@ use Rattle.bench_abstraction.specs.Devices.{device_act, took}
 use Rattle.trace_nodes.specs.Judged.{PrintsNone}
 use Rattle.trace_nodes.proofs.Acts.{plain_says, unprinted_says}
 
-took_did : (d k : ℕ) (a : Taken) → told_by (took d k a).reply ≡ Did
+took_did : (d k : ℕ) (a : Taken) → class_of (took d k a).reply ≡ Did
 took_did d k (taken.Applied n v) = refl
 took_did d k (taken.Released piece x again) = refl
 

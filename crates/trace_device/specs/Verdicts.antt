@@ -11,7 +11,7 @@ use Rattle.node_acts.specs.Views.{View}
 use Rattle.psd_state.specs.Seen.{Seen, counting}
 use Rattle.ledger_moves.specs.Tariffs.{Tariff}
 use Rattle.bench_abstraction.specs.declared.calls.DeviceCall.{DeviceCall}
-use Rattle.bench_abstraction.specs.declared.taken.Work.TheVariants as work
+use Rattle.bench_abstraction.specs.declared.routing.OfDay.TheVariants as of_day
 use Rattle.bench_abstraction.specs.Devices.{device_kind}
 use Rattle.trace_nodes.specs.declared.giving.GaveOut.{GaveOut}
 use Rattle.trace_nodes.specs.Giving.{JudgedGiving}
@@ -37,4 +37,4 @@ MovesBy τ H e d line w (Err due) = MovesNever counting device_kind (Device d) d
 -- judgement of the line is that of the ledger.
 abbrev pub IsByLedger : ℕ → ℤ → Asked DeviceCall → List ℕ → View Seen → View Seen → Result GaveOut Reply → Type 0
 IsByLedger d today asked line v w result =
-    ByLedger counting device_kind (Device d) d (work.Device d) (λ a. Unit {0}) today asked v (λ τ H e. MovesBy τ H e d line w result)
+    ByLedger counting device_kind (Device d) d (of_day.Device d) (λ a. Unit {0}) today asked v (λ τ H e. MovesBy τ H e d line w result)

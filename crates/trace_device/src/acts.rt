@@ -3,10 +3,10 @@ ghost use Rattle.std.specs.Prelude.{◌≡◌};
 ghost use Rattle.bench_abstraction.specs.Devices as views;
 ghost use Rattle.trace_device.specs.Records.{HoldsAct};
 
+use bench_abstraction::DeviceCall;
 use bench_base::events::Reply;
 use bench_base::numbers::{DayNo, DevNo};
 use call_handlers::{DeviceCallee, StatusCall};
-use bench_abstraction::DeviceCall;
 use node_acts::{Act, Said};
 use psd_state::{DevRec, DeviceState};
 use trace_nodes::said_act;

@@ -6,14 +6,14 @@ ghost use Rattle.trace_device.specs.Verdicts.{IsByView, IsByLedger, commit_in};
 
 use crate::acts::{device_act, holds_act};
 use crate::record::DeviceRecord;
+use bench_abstraction::DeviceCall;
+use bench_abstraction::laws::nodes_follow;
 use bench_base::events::Reply;
 use bench_base::numbers::{DayNo, DevNo};
 use bench_base::words::Node;
-use bench_abstraction::DeviceCall;
-use bench_abstraction::laws::nodes_follow;
 use node_acts::Asked;
 use psd_state::DevRec;
-use trace_nodes::{GaveOut, Seat, judge_cut, judge_giving, judge_off, judge_on, unreleased};
+use trace_nodes::{GaveOut, Traced, judge_cut, judge_giving, judge_off, judge_on, unreleased};
 
 /// A record is one that storage can show.
 pub fn is_known(kept: &DeviceRecord)
@@ -27,47 +27,47 @@ pub fn is_known(kept: &DeviceRecord)
 
 // By what is seen of the device; and its record, and that after a commit, are ones that storage can show.
 fn judge_view(
-    seat: &mut Seat<DeviceRecord, DevRec>,
+    traced: &mut Traced<DeviceRecord, DevRec>,
     device: DevNo,
     day: DayNo,
     asked: &Asked<DeviceCall>,
     line: &[u8],
 ) -> Result<GaveOut, Reply>
-    requires settled { IsSettled seat.old }
-    ensures settled { IsSettled seat.new }
-    ensures judged { IsByView device day asked.now line.now (view_of seat.old) (view_of seat.new) result }
-    ensures known { IsKnown (seen_of seat.old.record) }
-    ensures next { IfSome (commit_in device day asked.now (view_of seat.old)) (λ x. IsKnown x.1) }
+    requires settled { IsSettled traced.old }
+    ensures settled { IsSettled traced.new }
+    ensures judged { IsByView device day asked.now line.now (view_of traced.old) (view_of traced.new) result }
+    ensures known { IsKnown (seen_of traced.old.record) }
+    ensures next { IfSome (commit_in device day asked.now (view_of traced.old)) (λ x. IsKnown x.1) }
 {
-    is_known(&seat.record);
+    is_known(&traced.record);
     let name = Node::Device(device);
     match asked {
-        Asked::On => unreleased(&judge_on(seat, &name, line)),
-        Asked::Off => unreleased(&judge_off(seat, &name, line)),
-        Asked::Cut(_, _, _) => unreleased(&judge_cut(seat, &name, line)),
+        Asked::On => unreleased(&judge_on(traced, &name, line)),
+        Asked::Off => unreleased(&judge_off(traced, &name, line)),
+        Asked::Cut(_, _, _) => unreleased(&judge_cut(traced, &name, line)),
         Asked::Call(call) => {
-            let act = device_act(device, day, call, &seat.record.state);
+            let act = device_act(device, day, call, &traced.record.state);
             holds_act(&act);
-            judge_giving(seat, &name, &act, line)
+            judge_giving(traced, &name, &act, line)
         }
     }
 }
 
 /// Judges the line of an event that asks this of the device on that day. `Ok`, with the message that was sent and the mark that was released, if and only if the
-/// event may get a reply of that line, at each history at which the device is seen as the seat shows: the seat then shows the device at the ledger
-/// that the reply leaves. `Err`, with the answer that was due, if and only if it may get none; the seat rests.
+/// event may get a reply of that line, at each history at which the device is seen as the traced node shows: the traced node then shows the device at the ledger
+/// that the reply leaves. `Err`, with the answer that was due, if and only if it may get none; the traced node rests.
 pub fn judge_device(
-    seat: &mut Seat<DeviceRecord, DevRec>,
+    traced: &mut Traced<DeviceRecord, DevRec>,
     device: DevNo,
     day: DayNo,
     asked: &Asked<DeviceCall>,
     line: &[u8],
 ) -> Result<GaveOut, Reply>
-    requires settled { IsSettled seat.old }
-    ensures settled { IsSettled seat.new }
-    ensures by_view { IsByView device day asked.now line.now (view_of seat.old) (view_of seat.new) result }
-    ensures by_ledger { IsByLedger device day asked.now line.now (view_of seat.old) (view_of seat.new) result }
+    requires settled { IsSettled traced.old }
+    ensures settled { IsSettled traced.new }
+    ensures by_view { IsByView device day asked.now line.now (view_of traced.old) (view_of traced.new) result }
+    ensures by_ledger { IsByLedger device day asked.now line.now (view_of traced.old) (view_of traced.new) result }
 {
     nodes_follow();
-    judge_view(seat, device, day, asked, line)
+    judge_view(traced, device, day, asked, line)
 }

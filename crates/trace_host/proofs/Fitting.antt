@@ -21,7 +21,7 @@ use Rattle.bench_abstraction.specs.declared.calls.HostCall.{HostCall}
 use Rattle.bench_abstraction.specs.declared.calls.HostCall.TheVariants as call
 use Rattle.bench_abstraction.specs.Host.{host_act}
 use Rattle.trace_nodes.specs.Giving.{ReleasesNone}
-use Rattle.trace_nodes.specs.Seats.{FitsAct}
+use Rattle.trace_nodes.specs.TracedNodes.{FitsAct}
 use Rattle.trace_host.specs.Records.{IsFit, IsRanged}
 use Rattle.trace_host.proofs.Joined.{put_known}
 

@@ -11,9 +11,9 @@ use Rattle.node_acts.specs.Views.{View}
 use Rattle.host_jobs.specs.Seen.{Seen, counting}
 use Rattle.ledger_moves.specs.Tariffs.{Tariff}
 use Rattle.bench_abstraction.specs.declared.calls.HostCall.{HostCall}
-use Rattle.bench_abstraction.specs.declared.taken.Work.TheVariants as work
+use Rattle.bench_abstraction.specs.declared.routing.OfDay.TheVariants as of_day
 use Rattle.bench_abstraction.specs.Host.{host_kind}
-use Rattle.trace_nodes.specs.declared.printing.Told.{Told}
+use Rattle.trace_nodes.specs.declared.printing.PrintOutcome.{PrintOutcome}
 use Rattle.bench_base.specs.Replies.{tells_printer}
 use Rattle.trace_nodes.specs.Judged.{JudgedPrint}
 use Rattle.trace_views.specs.Verdicts as views
@@ -27,18 +27,18 @@ abbrev pub commit_in : ℤ → Asked HostCall → View Seen → Option (Commit �
 commit_in today asked v = views.commit_in counting host_kind Host tt today asked v
 
 -- the judgement of the line is that of what is seen of the host
-abbrev pub IsByView : ℤ → Asked HostCall → List ℕ → View Seen → View Seen → Result Told Reply → Type 0
+abbrev pub IsByView : ℤ → Asked HostCall → List ℕ → View Seen → View Seen → Result PrintOutcome Reply → Type 0
 IsByView today asked line v w result = JudgedPrint counting Host v (plan_in today asked v) (commit_in today asked v) line w result
 
 -- what was sent, and whether the printer failed
-abbrev pub MovesBy : Tariff → Ledger → Event → List ℕ → View Seen → Result Told Reply → Type 0
+abbrev pub MovesBy : Tariff → Ledger → Event → List ℕ → View Seen → Result PrintOutcome Reply → Type 0
 MovesBy τ H e line w (Ok told) = (reply : Reply) × MovesSo counting host_kind Host tt τ H e line w told.sent None reply × (told.cut ≡ tells_printer reply)
 MovesBy τ H e line w (Err due) = MovesNever counting host_kind Host tt τ H e line w due
 
 -- P at each history at which the host is seen so, for each event that asks this of it on this day and brings nothing forged
 abbrev pub AtHosts : ℤ → Asked HostCall → View Seen → (Tariff → Ledger → Event → Type 0) → Type 0
-AtHosts today asked v P = ByLedger counting host_kind Host tt work.Host (λ a. Unit {0}) today asked v P
+AtHosts today asked v P = ByLedger counting host_kind Host tt of_day.Host (λ a. Unit {0}) today asked v P
 
 -- There the judgement of the line is that of the ledger.
-abbrev pub IsByLedger : ℤ → Asked HostCall → List ℕ → View Seen → View Seen → Result Told Reply → Type 0
+abbrev pub IsByLedger : ℤ → Asked HostCall → List ℕ → View Seen → View Seen → Result PrintOutcome Reply → Type 0
 IsByLedger today asked line v w result = AtHosts today asked v (λ τ H e. MovesBy τ H e line w result)

@@ -5,9 +5,9 @@ ghost use Rattle.bench_abstraction.specs.Host as views;
 ghost use Rattle.trace_host.specs.Cells.{cells_of};
 
 use crate::record::HostRecord;
+use bench_abstraction::HostCall;
 use bench_base::events::Reply;
 use call_handlers::HostCallee;
-use bench_abstraction::HostCall;
 use host_jobs::JobRow;
 use node_acts::{Act, Said};
 use trace_nodes::said_act;

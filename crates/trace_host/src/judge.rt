@@ -7,14 +7,16 @@ ghost use Rattle.trace_host.specs.Verdicts.{IsByView, IsByLedger, commit_in};
 
 use crate::acts::host_act;
 use crate::record::HostRecord;
+use bench_abstraction::HostCall;
+use bench_abstraction::laws::host_follows;
 use bench_base::events::Reply;
 use bench_base::numbers::DayNo;
 use bench_base::words::Node;
-use bench_abstraction::HostCall;
-use bench_abstraction::laws::host_follows;
 use host_jobs::{JobRow, JobsOf, acts_follow_the_commits};
 use node_acts::Asked;
-use trace_nodes::{Seat, Told, judge_cut, judge_off, judge_on, judge_printing, unprinted};
+use trace_nodes::{
+    PrintOutcome, Traced, judge_cut, judge_off, judge_on, judge_printing, unprinted,
+};
 
 // A record is one that storage can show.
 pub(crate) fn is_known(kept: &HostRecord)
@@ -25,45 +27,45 @@ pub(crate) fn is_known(kept: &HostRecord)
 
 // By what is seen of the host; and its record, and that after a commit, are ones that storage can show.
 fn judge_view(
-    seat: &mut Seat<HostRecord, JobRow>,
+    traced: &mut Traced<HostRecord, JobRow>,
     day: DayNo,
     asked: &Asked<HostCall>,
     line: &[u8],
-) -> Result<Told, Reply>
-    requires settled { IsSettled seat.old }
+) -> Result<PrintOutcome, Reply>
+    requires settled { IsSettled traced.old }
     requires ranged { IsRangedAsked asked.now }
-    ensures settled { IsSettled seat.new }
-    ensures judged { IsByView day asked.now line.now (view_of seat.old) (view_of seat.new) result }
-    ensures known { IsKnown (cells_of seat.old.record) }
-    ensures next { IfSome (commit_in day asked.now (view_of seat.old)) (λ x. IsKnown x.1) }
+    ensures settled { IsSettled traced.new }
+    ensures judged { IsByView day asked.now line.now (view_of traced.old) (view_of traced.new) result }
+    ensures known { IsKnown (cells_of traced.old.record) }
+    ensures next { IfSome (commit_in day asked.now (view_of traced.old)) (λ x. IsKnown x.1) }
 {
     acts_follow_the_commits();
-    is_known(&seat.record);
+    is_known(&traced.record);
     let name = Node::Host;
     match asked {
-        Asked::On => unprinted(&judge_on(seat, &name, line)),
-        Asked::Off => unprinted(&judge_off(seat, &name, line)),
-        Asked::Cut(_, _, _) => unprinted(&judge_cut(seat, &name, line)),
+        Asked::On => unprinted(&judge_on(traced, &name, line)),
+        Asked::Off => unprinted(&judge_off(traced, &name, line)),
+        Asked::Cut(_, _, _) => unprinted(&judge_cut(traced, &name, line)),
         Asked::Call(call) => {
-            let act = host_act(call, &seat.record);
-            judge_printing(seat, &name, &act, line)
+            let act = host_act(call, &traced.record);
+            judge_printing(traced, &name, &act, line)
         }
     }
 }
 
 /// Judges the line of an event that asks this of the host on that day: as `judge_device` of trace_device, and whether the printer failed.
 pub fn judge_host(
-    seat: &mut Seat<HostRecord, JobRow>,
+    traced: &mut Traced<HostRecord, JobRow>,
     day: DayNo,
     asked: &Asked<HostCall>,
     line: &[u8],
-) -> Result<Told, Reply>
-    requires settled { IsSettled seat.old }
+) -> Result<PrintOutcome, Reply>
+    requires settled { IsSettled traced.old }
     requires ranged { IsRangedAsked asked.now }
-    ensures settled { IsSettled seat.new }
-    ensures by_view { IsByView day asked.now line.now (view_of seat.old) (view_of seat.new) result }
-    ensures by_ledger { IsByLedger day asked.now line.now (view_of seat.old) (view_of seat.new) result }
+    ensures settled { IsSettled traced.new }
+    ensures by_view { IsByView day asked.now line.now (view_of traced.old) (view_of traced.new) result }
+    ensures by_ledger { IsByLedger day asked.now line.now (view_of traced.old) (view_of traced.new) result }
 {
     host_follows();
-    judge_view(seat, day, asked, line)
+    judge_view(traced, day, asked, line)
 }

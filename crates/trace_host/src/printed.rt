@@ -14,12 +14,12 @@ ghost use Rattle.trace_host.specs.Verdicts.{AtHosts, plan_in};
 use crate::acts::host_act;
 use crate::judge::is_known;
 use crate::record::HostRecord;
-use bench_base::events::Reply;
 use bench_abstraction::laws::host_follows;
 use bench_abstraction::{HostCall, PrintCall};
+use bench_base::events::Reply;
 use host_jobs::{JobRow, acts_follow_the_commits};
 use node_acts::{Act, GivenOut, Said};
-use trace_nodes::{Record, Seat};
+use trace_nodes::{Record, Traced};
 
 // The mark that is printed, where this is said.
 fn mark_in(said: &Said) -> Option<[u8; 64]>
@@ -32,17 +32,17 @@ fn mark_in(said: &Said) -> Option<[u8; 64]>
 }
 
 // The mark that is printed by a call of this act.
-fn mark_by(seat: &Seat<HostRecord, JobRow>, act: &Act<JobRow, Reply, Said>) -> Option<[u8; 64]>
-    ensures { result ≡ print_of (seen_plan counting Host (view_of seat.now) act.now).after }
+fn mark_by(traced: &Traced<HostRecord, JobRow>, act: &Act<JobRow, Reply, Said>) -> Option<[u8; 64]>
+    ensures { result ≡ print_of (seen_plan counting Host (view_of traced.now) act.now).after }
 {
-    if !seat.on {
+    if !traced.on {
         return None;
     }
     match act {
         Act::Refuse(_) => None,
         Act::Tell(said) => mark_in(said),
         Act::Commits(_, change, said) => {
-            if seat.record.is_worn(change) {
+            if traced.record.is_worn(change) {
                 None
             } else {
                 mark_in(said)
@@ -52,13 +52,13 @@ fn mark_by(seat: &Seat<HostRecord, JobRow>, act: &Act<JobRow, Reply, Said>) -> O
 }
 
 /// The mark that a `print` of this job prints where nothing fails; None where it is refused, or the host is off.
-pub fn mark_due(seat: &Seat<HostRecord, JobRow>, job: u32) -> Option<[u8; 64]>
-    ensures by_view { (today : ℤ) → print_of (plan_in today (Call (printing job)) (view_of seat.now)).after ≡ result }
-    ensures by_ledger { (today : ℤ) → AtHosts today (Call (printing job)) (view_of seat.now) (λ τ H e. print_of (plan τ todays_rules H e []).after ≡ result) }
+pub fn mark_due(traced: &Traced<HostRecord, JobRow>, job: u32) -> Option<[u8; 64]>
+    ensures by_view { (today : ℤ) → print_of (plan_in today (Call (printing job)) (view_of traced.now)).after ≡ result }
+    ensures by_ledger { (today : ℤ) → AtHosts today (Call (printing job)) (view_of traced.now) (λ τ H e. print_of (plan τ todays_rules H e []).after ≡ result) }
 {
     host_follows();
     acts_follow_the_commits();
-    is_known(&seat.record);
-    let act = host_act(&HostCall::Print(PrintCall { job }), &seat.record);
-    mark_by(seat, &act)
+    is_known(&traced.record);
+    let act = host_act(&HostCall::Print(PrintCall { job }), &traced.record);
+    mark_by(traced, &act)
 }

@@ -3,7 +3,7 @@ ghost use Rattle.std.specs.Prelude.{◌≡◌, ◌<◌, [], false, IfOk};
 ghost use Rattle.node_acts.specs.RowList.{commits_at, is_worn, put};
 ghost use Rattle.host_jobs.specs.Records.{seen_after};
 ghost use Rattle.host_jobs.specs.Seen as host;
-ghost use Rattle.host_jobs.specs.Soundness.{IsKept};
+ghost use Rattle.host_jobs.specs.Soundness.{IsDerived};
 ghost use Rattle.host_node.specs.Unique.{kept_prop};
 ghost use Rattle.trace_host.specs.Records.{AreJoined, IsFit};
 
@@ -21,7 +21,7 @@ pub struct HostRecord {
     pub(crate) kept: Kept,
     pub(crate) total: u64,
     ghost joined: { AreJoined cells.items jobs total },
-    ghost follows: { IsKept jobs kept } by { kept_prop jobs kept },
+    ghost follows: { IsDerived jobs kept } by { kept_prop jobs kept },
 }
 
 // The cell of a job.
@@ -50,12 +50,12 @@ fn put_in(
     row: &JobRow,
 )
     requires joined { AreJoined cells.old.items jobs.old total.old }
-    requires kept { IsKept jobs.old kept.old }
+    requires kept { IsDerived jobs.old kept.old }
     requires fits { IsFit cells.old.items row.now }
     requires room { is_worn cells.old.items (host.cell_of row.now) ≡ false }
     ensures put { cells.new.items ≡ put cells.old.items (host.cell_of row.now) row.now }
     ensures joined { AreJoined cells.new.items jobs.new total.new }
-    ensures kept { IsKept jobs.new kept.new }
+    ensures kept { IsDerived jobs.new kept.new }
 {
     let cell = cell_of(row);
     let count = count_of(&cells[cell]);

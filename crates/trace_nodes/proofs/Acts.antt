@@ -4,7 +4,7 @@ use Rattle.std.specs.Prelude.{IfSome}
 use Rattle.bench_base.specs.declared.ledger.Commit.{Commit}
 use Rattle.bench_base.specs.declared.events.Reply.{Reply}
 use Rattle.bench_base.specs.declared.events.Reply.TheVariants as r
-use Rattle.bench_base.specs.Replies.{Did, Refused, told_by}
+use Rattle.bench_base.specs.Replies.{Did, Refused, class_of}
 use Rattle.node_acts.specs.declared.act.Act.{Act}
 use Rattle.node_acts.specs.declared.act.Act.TheVariants.{Refuse, Tell, Commits}
 use Rattle.node_acts.specs.declared.said.Said.{Said}
@@ -15,7 +15,7 @@ use Rattle.trace_nodes.specs.Judged.{PrintsNone}
 use Rattle.trace_nodes.specs.Giving.{released_as, ReleasesNone}
 
 module _ {X F A : Type 0} (refusal : F → Reply) (say : A → Said) where
-  pub plain_says : ((x : F) → told_by (refusal x) ≡ Refused) → ((a : A) → told_by (say a).reply ≡ Did) → (act : Act X F A) → IsPlain (saying refusal say act)
+  pub plain_says : ((x : F) → class_of (refusal x) ≡ Refused) → ((a : A) → class_of (say a).reply ≡ Did) → (act : Act X F A) → IsPlain (saying refusal say act)
   plain_says refuses says (Refuse x) = refuses x
   plain_says refuses says (Tell a) = says a
   plain_says refuses says (Commits c x a) = says a

@@ -5,7 +5,7 @@ use Rattle.bench_base.specs.declared.ledger.Commit.{Commit}
 use Rattle.bench_base.specs.declared.events.Reply.{Reply}
 use Rattle.bench_base.specs.declared.events.Reply.TheVariants as r
 use Rattle.bench_base.specs.Plans.{Plan}
-use Rattle.bench_base.specs.Replies.{told_by, tells_printer}
+use Rattle.bench_base.specs.Replies.{class_of, tells_printer}
 use Rattle.node_acts.specs.declared.act.Act.{Act}
 use Rattle.node_acts.specs.declared.act.Outcome.{Outcome}
 use Rattle.node_acts.specs.declared.said.Said.{Said}
@@ -15,7 +15,7 @@ use Rattle.node_acts.specs.Plans.{IsOfNode, Fails, MayReply, view_after, with_co
 use Rattle.node_acts.specs.Said.{IsPlain, seen_plan, said_reply, said_entries}
 use Rattle.node_acts.proofs.Told.{Tells, tells_call}
 use Rattle.script_text.specs.Texts.{reply_words, text_of}
-use Rattle.script_text.specs.Told.{IsWholeReply}
+use Rattle.script_text.specs.ReplyRanges.{IsWholeReply}
 use Rattle.trace_nodes.specs.Judged.{TellsOf, TellsNone, newest_sent}
 use Rattle.trace_nodes.proofs.Openings.{first, second, power_second, fault_first}
 use Rattle.trace_nodes.proofs.Telling.{IsDue, seen_due, ComesAs, Kind, answered, powered, faulted, kind, same_reply, by_power, by_fault, no_up, may_answer, seen_answer, seen_said}
@@ -49,7 +49,7 @@ cut_is_no_fault : (m : Node) (j : ℕ) → text_of (r.Fault m) ≡ text_of (r.Pr
 cut_is_no_fault m j is = let same : ◌≡◌ {A = ℕ} 102 112 = sym (fault_first m) ∙ ap first is ∙ cut_first j in absurd (omega arith)
 
 -- an answer is none
-due_uncut : (y : Reply) → IsDue (told_by y) → tells_printer y ≡ false
+due_uncut : (y : Reply) → IsDue (class_of y) → tells_printer y ≡ false
 due_uncut (r.PrinterFault j) (inl did) = cc
 due_uncut (r.PrinterFault j) (inr refused) = cc
 due_uncut _ due = refl
@@ -109,7 +109,7 @@ module _ {S X : Type 0} (n : Counting S X) (m : Node) (v : View S) (act : Act X 
         may = by_may it.may;
         leaves = leaves ∙ sym (it.view v);
         sends = sends ∙ ap newest_sent it.entries_are;
-        alone = λ other may_other is. ap told_by (other_of x (kind n m v act own plain x may) other (comes_back other may_other) (is ∙ sym text));
+        alone = λ other may_other is. ap class_of (other_of x (kind n m v act own plain x may) other (comes_back other may_other) (is ∙ sym text));
       }
 
   -- another reply with the text of a printer fault
@@ -129,7 +129,7 @@ module _ {S X : Type 0} (n : Counting S X) (m : Node) (v : View S) (act : Act X 
     may = inr (inr prints);
     leaves = leaves;
     sends = silent p.commit;
-    alone = λ other may_other is. ap told_by (other_cut j prints other (comes_back other may_other) (is ∙ sym text));
+    alone = λ other may_other is. ap class_of (other_cut j prints other (comes_back other may_other) (is ∙ sym text));
   }
 
   pub tells_none : (line : List ℕ) → ((x : Outcome Reply Said) → MayCome n v act x → text_of (said_reply m x) ≢ line) → (due : Reply) → due ≡ p.reply

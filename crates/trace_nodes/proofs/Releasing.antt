@@ -7,7 +7,7 @@ use Rattle.bench_base.specs.declared.ledger.Entry.TheVariants as entry
 use Rattle.bench_base.specs.declared.events.Reply.{Reply}
 use Rattle.bench_base.specs.declared.events.Reply.TheVariants as r
 use Rattle.bench_base.specs.Plans.{Plan, refuse, made, told}
-use Rattle.bench_base.specs.Replies.{Told, Did, Refused, Armed, CameOn, WentOff, LostPower, Faulted, WasDamaged, PrinterFailed, RatesFailed, told_by}
+use Rattle.bench_base.specs.Replies.{ReplyClass, Did, Refused, Armed, CameOn, WentOff, LostPower, Faulted, WasDamaged, PrinterFailed, RatesFailed, class_of}
 use Rattle.bench_base.specs.Ledger.{IsReleased}
 use Rattle.node_acts.specs.declared.act.Act.{Act}
 use Rattle.node_acts.specs.declared.act.Act.TheVariants.{Refuse, Tell, Commits}
@@ -110,7 +110,7 @@ torn_unreleasing : (o : Option Commit) (m : Node) → IsUnreleasing (with_torn o
 torn_unreleasing None m mark is = is
 torn_unreleasing (Some c) m mark is = is
 
-told_unreleasing : (p : Plan) → IsUnreleasing p.after → (t : Told) → IsUnreleasing (after_told p t [])
+told_unreleasing : (p : Plan) → IsUnreleasing p.after → (t : ReplyClass) → IsUnreleasing (after_told p t [])
 told_unreleasing p none Did = unreleasing_both p.after (with_commit p.commit []) none (commit_unreleasing p.commit)
 told_unreleasing p none Refused = unreleasing_both p.after (with_commit p.commit []) none (commit_unreleasing p.commit)
 told_unreleasing p none (Armed m) = unreleasing_both p.after (with_commit p.commit []) none (commit_unreleasing p.commit)
@@ -124,7 +124,7 @@ told_unreleasing p none RatesFailed = λ mark is. is
 
 -- so it releases nothing, whatever is replied
 pub plan_releases : (p : Plan) → IsUnreleasing p.after → (reply : Reply) → IsOnlyRelease None (after p reply [])
-plan_releases p none reply = only_none (after p reply []) (told_unreleasing p none (told_by reply))
+plan_releases p none reply = only_none (after p reply []) (told_unreleasing p none (class_of reply))
 
 tells_none : (a : Said) → released_as a.given ≡ None → IsUnreleasing (tells a)
 tells_none a none = by a.sent a.given none

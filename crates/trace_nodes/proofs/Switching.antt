@@ -8,12 +8,12 @@ use Rattle.bench_base.specs.declared.events.Reply.{Reply}
 use Rattle.bench_base.specs.declared.events.Reply.TheVariants as r
 use Rattle.bench_base.specs.Plans.{Plan, told}
 use Rattle.bench_base.specs.Ranges.{IsNode}
-use Rattle.bench_base.specs.Replies.{told_by}
+use Rattle.bench_base.specs.Replies.{class_of}
 use Rattle.node_acts.specs.Views.{Counting, View, started, up, up_with}
 use Rattle.node_acts.specs.Plans.{MayFail, Fails, MayReply, on_plan, view_after, after}
 use Rattle.script_text.specs.Texts.{text_of}
-use Rattle.script_text.specs.Told.{IsWholeReply}
-use Rattle.script_text.specs.Told as texts
+use Rattle.script_text.specs.ReplyRanges.{IsWholeReply}
+use Rattle.script_text.specs.ReplyRanges as texts
 use Rattle.trace_nodes.specs.Judged.{TellsOf, newest_sent}
 use Rattle.trace_nodes.proofs.Openings.{tells_power, tells_fault}
 
@@ -108,7 +108,7 @@ module _ {S X : Type 0} (n : Counting S X) (m : Node) (v : View S) (off : v.on �
       may = may reply of;
       leaves = leaves;
       sends = silent reply of;
-      alone = λ other may_other is. ap told_by (same_reply other reply (kind other may_other) of (is ∙ sym text));
+      alone = λ other may_other is. ap class_of (same_reply other reply (kind other may_other) of (is ∙ sym text));
     }
       where
         silent : (reply : Reply) → Kind reply → None ≡ newest_sent (after p reply [])

@@ -6,7 +6,7 @@ use Rattle.bench_base.specs.declared.ledger.Commit.{Commit}
 use Rattle.bench_base.specs.declared.events.Reply.{Reply}
 use Rattle.bench_base.specs.declared.events.Reply.TheVariants as r
 use Rattle.bench_base.specs.Plans.{Plan, refuse, made}
-use Rattle.bench_base.specs.Replies.{Told, Did, Refused, LostPower, Faulted, told_by}
+use Rattle.bench_base.specs.Replies.{ReplyClass, Did, Refused, LostPower, Faulted, class_of}
 use Rattle.node_acts.specs.declared.act.Act.{Act}
 use Rattle.node_acts.specs.declared.act.Act.TheVariants.{Refuse, Tell, Commits}
 use Rattle.node_acts.specs.declared.act.Outcome.{Outcome}
@@ -17,7 +17,7 @@ use Rattle.node_acts.specs.Acts.{commit_of, outcome_in, outcome_of, MayCome, aft
 use Rattle.node_acts.specs.Plans.{IsOfNode, MayFail, Fails, MayReply, done_plan}
 use Rattle.node_acts.specs.Said.{tells, IsPlain, seen_plan, said_reply, said_entries}
 use Rattle.node_acts.proofs.Told.{Tells, tells_call, seen_commit, seen_own}
-use Rattle.script_text.specs.Told.{IsWholeReply}
+use Rattle.script_text.specs.ReplyRanges.{IsWholeReply}
 use Rattle.script_text.specs.Texts.{text_of}
 use Rattle.trace_nodes.specs.Judged.{PrintsNone, TellsOf, TellsNone, newest_sent}
 use Rattle.trace_nodes.proofs.Openings.{tells_power, tells_fault}
@@ -25,29 +25,29 @@ use Rattle.trace_nodes.proofs.Openings.{tells_power, tells_fault}
 -- == an answer ==
 
 -- it was done, or refused
-abbrev pub IsDue : Told → Type 0
+abbrev pub IsDue : ReplyClass → Type 0
 IsDue t = (t ≡ Did) ⊎ (t ≡ Refused)
 
 module _ {S X : Type 0} (n : Counting S X) (m : Node) where
-  done_due : (s : S) (act : Act X Reply Said) → IsPlain act → IsDue (told_by (done_plan n m (λ x. x) (λ a. a.reply) tells s act).reply)
+  done_due : (s : S) (act : Act X Reply Said) → IsPlain act → IsDue (class_of (done_plan n m (λ x. x) (λ a. a.reply) tells s act).reply)
   done_due s (Refuse x) plain = inr plain
   done_due s (Tell a) plain = inl plain
   done_due s (Commits c x a) plain = by (n.is_worn s x)
     where
-      by : (worn : Bool) → IsDue (told_by (if worn then refuse (r.Worn m) else made a.reply c (tells a)).reply)
+      by : (worn : Bool) → IsDue (class_of (if worn then refuse (r.Worn m) else made a.reply c (tells a)).reply)
       by true = inr refl
       by false = inl plain
 
-  pub seen_due : (v : View S) (act : Act X Reply Said) → IsPlain act → IsDue (told_by (seen_plan n m v act).reply)
+  pub seen_due : (v : View S) (act : Act X Reply Said) → IsPlain act → IsDue (class_of (seen_plan n m v act).reply)
   seen_due v act plain = by v.on
     where
-      by : (on : Bool) → IsDue (told_by (if on then done_plan n m (λ x. x) (λ a. a.reply) tells v.state act else refuse (r.OffNode m)).reply)
+      by : (on : Bool) → IsDue (class_of (if on then done_plan n m (λ x. x) (λ a. a.reply) tells v.state act else refuse (r.OffNode m)).reply)
       by true = done_due v.state act plain
       by false = inr refl
 
   -- and printed nothing
   done_unprinted : (s : S) (act : Act X Reply Said) → IsPlain act → PrintsNone act → (j : ℕ) → (done_plan n m (λ x. x) (λ a. a.reply) tells s act).reply ≢ r.Printed j
-  done_unprinted s (Refuse x) plain none j is = let t : Refused ≡ Did = sym plain ∙ ap told_by is in cc
+  done_unprinted s (Refuse x) plain none j is = let t : Refused ≡ Did = sym plain ∙ ap class_of is in cc
   done_unprinted s (Tell a) plain none j is = none j is
   done_unprinted s (Commits c x a) plain none j is = by (n.is_worn s x) is
     where
@@ -121,8 +121,8 @@ module _ {S X : Type 0} (n : Counting S X) (m : Node) where
 
     pub no_up : (i : Node) (k : ℕ) → p.reply ≡ r.Up i k → ⊥
     no_up i k is = elim (seen_due v act plain) [
-      | inl did ↦ let t : told_by (r.Up i k) ≡ Did = sym (ap told_by is) ∙ did in cc
-      | inr refused ↦ let t : told_by (r.Up i k) ≡ Refused = sym (ap told_by is) ∙ refused in cc
+      | inl did ↦ let t : class_of (r.Up i k) ≡ Did = sym (ap class_of is) ∙ did in cc
+      | inr refused ↦ let t : class_of (r.Up i k) ≡ Refused = sym (ap class_of is) ∙ refused in cc
     ]
 
     -- the commit of the plan is that of the act
@@ -148,13 +148,13 @@ module _ {S X : Type 0} (n : Counting S X) (m : Node) where
     -- == texts tell them apart ==
 
     -- what it may come to is the answer, or a failure
-    no_power : (i : Node) (k : Node) → told_by p.reply ≡ LostPower i → ⊥
+    no_power : (i : Node) (k : Node) → class_of p.reply ≡ LostPower i → ⊥
     no_power i k lost = elim (seen_due v act plain) [
       | inl did ↦ let t : LostPower i ≡ Did = sym lost ∙ did in cc
       | inr refused ↦ let t : LostPower i ≡ Refused = sym lost ∙ refused in cc
     ]
 
-    no_fault : (i : Node) → told_by p.reply ≡ Faulted i → ⊥
+    no_fault : (i : Node) → class_of p.reply ≡ Faulted i → ⊥
     no_fault i struck = elim (seen_due v act plain) [
       | inl did ↦ let t : Faulted i ≡ Did = sym struck ∙ did in cc
       | inr refused ↦ let t : Faulted i ≡ Refused = sym struck ∙ refused in cc
@@ -228,7 +228,7 @@ module _ {S X : Type 0} (n : Counting S X) (m : Node) where
             sends = sends ∙ ap newest_sent it.entries_are;
             alone = λ other may_other is.
                 let back = comes_back other may_other in
-                ap told_by (sym back.2 ∙ same_reply back.0 x (kind back.0 back.1) (kind x may) (ap text_of back.2 ∙ is ∙ sym text));
+                ap class_of (sym back.2 ∙ same_reply back.0 x (kind back.0 back.1) (kind x may) (ap text_of back.2 ∙ is ∙ sym text));
           }
 
       pub tells_none : (line : List ℕ) → ((x : Outcome Reply Said) → MayCome n v act x → text_of (said_reply m x) ≢ line) → (due : Reply) → due ≡ p.reply → TellsNone n m v p (commit_of n v act) line v due

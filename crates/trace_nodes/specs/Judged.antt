@@ -7,7 +7,7 @@ use Rattle.bench_base.specs.declared.events.Reply.{Reply}
 use Rattle.bench_base.specs.declared.events.Reply.TheVariants as r
 use Rattle.bench_base.specs.Plans.{Plan, refuse, told}
 use Rattle.bench_base.specs.Ledger.{Ledger}
-use Rattle.bench_base.specs.Replies.{told_by, tells_printer}
+use Rattle.bench_base.specs.Replies.{class_of, tells_printer}
 use Rattle.node_acts.specs.declared.act.Act.{Act}
 use Rattle.node_acts.specs.declared.act.Act.TheVariants.{Refuse, Tell, Commits}
 use Rattle.node_acts.specs.declared.said.Said.{Said}
@@ -16,8 +16,8 @@ use Rattle.node_acts.specs.Acts.{commit_of}
 use Rattle.node_acts.specs.Plans.{MayReply, view_after, after, on_plan, when_on}
 use Rattle.node_acts.specs.Said.{seen_plan}
 use Rattle.script_text.specs.Texts.{text_of}
-use Rattle.script_text.specs.Told.{IsWholeReply}
-use Rattle.trace_nodes.specs.declared.printing.Told.{Told}
+use Rattle.script_text.specs.ReplyRanges.{IsWholeReply}
+use Rattle.trace_nodes.specs.declared.printing.PrintOutcome.{PrintOutcome}
 
 -- the message that was sent last, where it is the newest entry
 abbrev pub newest_sent : Ledger → Option (List ℕ)
@@ -43,7 +43,7 @@ module _ {S X : Type 0} (n : Counting S X) (m : Node) (v : View S) (p : Plan) (m
     pub may : MayReply n m v p reply
     pub leaves : w ≡ view_after n reply made v
     pub sends : sent ≡ newest_sent (after p reply [])
-    pub alone : (other : Reply) → MayReply n m v p other → text_of other ≡ line → told_by other ≡ told_by reply
+    pub alone : (other : Reply) → MayReply n m v p other → text_of other ≡ line → class_of other ≡ class_of reply
 
   -- no reply that the event may get has this line; the answer was due, or a failure in its place
   pub record TellsNone (line : List ℕ) (w : View S) (due : Reply) : Type 0 where
@@ -57,12 +57,12 @@ module _ {S X : Type 0} (n : Counting S X) (m : Node) (v : View S) (p : Plan) (m
   Judged line w (Err due) = TellsNone line w due
 
   -- what is judged of the line of a call that may print: the message that was sent, and whether the printer failed
-  abbrev pub JudgedPrint : List ℕ → View S → Result Told Reply → Type 0
+  abbrev pub JudgedPrint : List ℕ → View S → Result PrintOutcome Reply → Type 0
   JudgedPrint line w (Ok told) = (reply : Reply) × TellsOf line w told.sent reply × (told.cut ≡ tells_printer reply)
   JudgedPrint line w (Err due) = TellsNone line w due
 
 -- of an event that prints nothing
-abbrev pub unprinted : Result (Option (List ℕ)) Reply → Result Told Reply
+abbrev pub unprinted : Result (Option (List ℕ)) Reply → Result PrintOutcome Reply
 unprinted (Ok sent) = Ok (record { sent = sent; cut = false })
 unprinted (Err due) = Err due
 
@@ -74,7 +74,7 @@ module _ {S X : Type 0} (n : Counting S X) (m : Node) (v : View S) where
   JudgedCall act line w result = Judged n m v (seen_plan n m v act) (commit_of n v act) line w result
 
   -- a call of this act, which may print
-  abbrev pub JudgedPrinting : Act X Reply Said → List ℕ → View S → Result Told Reply → Type 0
+  abbrev pub JudgedPrinting : Act X Reply Said → List ℕ → View S → Result PrintOutcome Reply → Type 0
   JudgedPrinting act line w result = JudgedPrint n m v (seen_plan n m v act) (commit_of n v act) line w result
 
   abbrev pub JudgedOn : List ℕ → View S → Result (Option (List ℕ)) Reply → Type 0

@@ -5,11 +5,11 @@ ghost use Rattle.node_acts.specs.Said.{IsPlain};
 ghost use Rattle.trace_nodes.specs.Giving as giving;
 ghost use Rattle.trace_nodes.specs.Giving.{JudgedGivingCall};
 ghost use Rattle.trace_nodes.specs.Judged.{PrintsNone};
-ghost use Rattle.trace_nodes.specs.Seats.{view_of, IsSettled, FitsAct};
+ghost use Rattle.trace_nodes.specs.TracedNodes.{view_of, IsSettled, FitsAct};
 
 use crate::judge::{due_reply, take_outcome, told_outcome};
 use crate::record::Record;
-use crate::seat::Seat;
+use crate::traced::Traced;
 use bench_base::bytes::Note;
 use bench_base::events::Reply;
 use bench_base::words::Node;
@@ -56,24 +56,24 @@ fn released_by(outcome: &Outcome<Reply, Said>) -> Option<[u8; 64]>
 
 /// Judges the line of a call that may release a mark: as `judge_call`, and which mark it was.
 pub fn judge_giving<R: Record<X>, X: Copy>(
-    seat: &mut Seat<R, X>,
+    traced: &mut Traced<R, X>,
     node: &Node,
     act: &Act<X, Reply, Said>,
     line: &[u8],
 ) -> Result<GaveOut, Reply>
-    requires settled { IsSettled R.counting R.IsFit R.seen seat.old }
-    requires fits { FitsAct R.IsFit (R.seen seat.old.record) act.now }
+    requires settled { IsSettled R.counting R.IsFit R.seen traced.old }
+    requires fits { FitsAct R.IsFit (R.seen traced.old.record) act.now }
     requires own { IsOfNode node.now act.now }
     requires plain { IsPlain act.now }
     requires unprinted { PrintsNone act.now }
-    ensures settled { IsSettled R.counting R.IsFit R.seen seat.new }
-    ensures judged { JudgedGivingCall R.counting node.now (view_of R.counting R.seen seat.old) act.now line.now (view_of R.counting R.seen seat.new) result }
+    ensures settled { IsSettled R.counting R.IsFit R.seen traced.new }
+    ensures judged { JudgedGivingCall R.counting node.now (view_of R.counting R.seen traced.old) act.now line.now (view_of R.counting R.seen traced.new) result }
 {
-    let told = told_outcome(seat, node, act, line);
+    let told = told_outcome(traced, node, act, line);
     match &told {
-        None => Err(due_reply(seat, node, act)),
+        None => Err(due_reply(traced, node, act)),
         Some(outcome) => {
-            let sent = take_outcome(seat, node, act, outcome);
+            let sent = take_outcome(traced, node, act, outcome);
             Ok(GaveOut {
                 sent,
                 released: released_by(outcome),

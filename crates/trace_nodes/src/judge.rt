@@ -7,12 +7,12 @@ ghost use Rattle.node_acts.specs.Acts.{MayCome, commit_of, after_call};
 ghost use Rattle.node_acts.specs.Plans.{IsOfNode};
 ghost use Rattle.node_acts.specs.Said.{IsPlain, said_reply, said_entries, seen_plan};
 ghost use Rattle.script_text.specs.Texts.{text_of};
-ghost use Rattle.script_text.specs.Told.{IsWholeReply};
-ghost use Rattle.trace_nodes.specs.Seats.{view_of, IsSettled, FitsAct};
+ghost use Rattle.script_text.specs.ReplyRanges.{IsWholeReply};
+ghost use Rattle.trace_nodes.specs.TracedNodes.{view_of, IsSettled, FitsAct};
 ghost use Rattle.trace_nodes.specs.Judged.{JudgedCall, PrintsNone, newest_sent};
 
 use crate::record::Record;
-use crate::seat::Seat;
+use crate::traced::Traced;
 use bench_base::bytes::Note;
 use bench_base::events::Reply;
 use bench_base::words::Node;
@@ -31,17 +31,17 @@ pub fn is_told(reply: &Reply, line: &[u8]) -> bool
 
 // What a call of this act came to, by its line; none where nothing that it may come to has that line.
 pub(crate) fn told_outcome<R: Record<X>, X: Copy>(
-    seat: &Seat<R, X>,
+    traced: &Traced<R, X>,
     node: &Node,
     act: &Act<X, Reply, Said>,
     line: &[u8],
 ) -> Option<Outcome<Reply, Said>>
-    ensures found { IfSome result (λ x. MayCome R.counting (view_of R.counting R.seen seat.now) act.now x
+    ensures found { IfSome result (λ x. MayCome R.counting (view_of R.counting R.seen traced.now) act.now x
         × (text_of (said_reply node.now x) ≡ line.now) × IsWholeReply (said_reply node.now x)) }
-    ensures none { IfNone result ((x : Outcome Reply Said) → MayCome R.counting (view_of R.counting R.seen seat.now) act.now x
+    ensures none { IfNone result ((x : Outcome Reply Said) → MayCome R.counting (view_of R.counting R.seen traced.now) act.now x
         → text_of (said_reply node.now x) ≢ line.now) }
 {
-    if !seat.on {
+    if !traced.on {
         return if is_told(&Reply::OffNode(*node), line) {
             Some(Outcome::Off)
         } else {
@@ -64,7 +64,7 @@ pub(crate) fn told_outcome<R: Record<X>, X: Copy>(
             }
         }
         Act::Commits(commit, change, said) => {
-            if seat.record.is_worn(change) {
+            if traced.record.is_worn(change) {
                 if is_told(&Reply::Worn(*node), line) {
                     Some(Outcome::Worn)
                 } else {
@@ -85,20 +85,20 @@ pub(crate) fn told_outcome<R: Record<X>, X: Copy>(
 
 // The answer to a call of this act.
 pub(crate) fn due_reply<R: Record<X>, X: Copy>(
-    seat: &Seat<R, X>,
+    traced: &Traced<R, X>,
     node: &Node,
     act: &Act<X, Reply, Said>,
 ) -> Reply
-    ensures { result ≡ (seen_plan R.counting node.now (view_of R.counting R.seen seat.now) act.now).reply }
+    ensures { result ≡ (seen_plan R.counting node.now (view_of R.counting R.seen traced.now) act.now).reply }
 {
-    if !seat.on {
+    if !traced.on {
         return Reply::OffNode(*node);
     }
     match act {
         Act::Refuse(reply) => *reply,
         Act::Tell(said) => said.reply,
         Act::Commits(_, change, said) => {
-            if seat.record.is_worn(change) {
+            if traced.record.is_worn(change) {
                 Reply::Worn(*node)
             } else {
                 said.reply
@@ -109,32 +109,32 @@ pub(crate) fn due_reply<R: Record<X>, X: Copy>(
 
 // Leaves the node as a call of this act leaves it that came to this: what it sent.
 pub(crate) fn take_outcome<R: Record<X>, X: Copy>(
-    seat: &mut Seat<R, X>,
+    traced: &mut Traced<R, X>,
     node: &Node,
     act: &Act<X, Reply, Said>,
     outcome: &Outcome<Reply, Said>,
 ) -> Option<Note>
-    requires settled { IsSettled R.counting R.IsFit R.seen seat.old }
-    requires fits { FitsAct R.IsFit (R.seen seat.old.record) act.now }
-    requires came { MayCome R.counting (view_of R.counting R.seen seat.old) act.now outcome.now }
-    ensures settled { IsSettled R.counting R.IsFit R.seen seat.new }
-    ensures leaves { view_of R.counting R.seen seat.new
-        ≡ after_call outcome.now (commit_of R.counting (view_of R.counting R.seen seat.old) act.now) (view_of R.counting R.seen seat.old) }
+    requires settled { IsSettled R.counting R.IsFit R.seen traced.old }
+    requires fits { FitsAct R.IsFit (R.seen traced.old.record) act.now }
+    requires came { MayCome R.counting (view_of R.counting R.seen traced.old) act.now outcome.now }
+    ensures settled { IsSettled R.counting R.IsFit R.seen traced.new }
+    ensures leaves { view_of R.counting R.seen traced.new
+        ≡ after_call outcome.now (commit_of R.counting (view_of R.counting R.seen traced.old) act.now) (view_of R.counting R.seen traced.old) }
     ensures sends { result ≡ newest_sent (said_entries node.now act.now outcome.now) }
 {
     match outcome {
         Outcome::Off | Outcome::Refused(_) | Outcome::Worn => None,
         Outcome::Done(said) => {
             if let Act::Commits(_, change, _) = act {
-                seat.record.put(change);
+                traced.record.put(change);
             }
             said.sent
         }
         Outcome::Power(_) | Outcome::Fault(_) => {
             if let Act::Commits(_, change, _) = act {
-                seat.open = Some(*change);
+                traced.open = Some(*change);
             }
-            seat.on = false;
+            traced.on = false;
             None
         }
     }
@@ -143,22 +143,22 @@ pub(crate) fn take_outcome<R: Record<X>, X: Copy>(
 /// Judges the line of a call of a node by its act. `Ok`, with the message that it sent, if and only if the call may get a reply of that
 /// line: the node is left as that reply tells. `Err`, with the answer that was due, if and only if it may get none: the node rests.
 pub fn judge_call<R: Record<X>, X: Copy>(
-    seat: &mut Seat<R, X>,
+    traced: &mut Traced<R, X>,
     node: &Node,
     act: &Act<X, Reply, Said>,
     line: &[u8],
 ) -> Result<Option<Note>, Reply>
-    requires settled { IsSettled R.counting R.IsFit R.seen seat.old }
-    requires fits { FitsAct R.IsFit (R.seen seat.old.record) act.now }
+    requires settled { IsSettled R.counting R.IsFit R.seen traced.old }
+    requires fits { FitsAct R.IsFit (R.seen traced.old.record) act.now }
     requires own { IsOfNode node.now act.now }
     requires plain { IsPlain act.now }
     requires unprinted { PrintsNone act.now }
-    ensures settled { IsSettled R.counting R.IsFit R.seen seat.new }
-    ensures judged { JudgedCall R.counting node.now (view_of R.counting R.seen seat.old) act.now line.now (view_of R.counting R.seen seat.new) result }
+    ensures settled { IsSettled R.counting R.IsFit R.seen traced.new }
+    ensures judged { JudgedCall R.counting node.now (view_of R.counting R.seen traced.old) act.now line.now (view_of R.counting R.seen traced.new) result }
 {
-    let told = told_outcome(seat, node, act, line);
+    let told = told_outcome(traced, node, act, line);
     match &told {
-        None => Err(due_reply(seat, node, act)),
-        Some(outcome) => Ok(take_outcome(seat, node, act, outcome)),
+        None => Err(due_reply(traced, node, act)),
+        Some(outcome) => Ok(take_outcome(traced, node, act, outcome)),
     }
 }

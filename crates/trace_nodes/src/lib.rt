@@ -7,13 +7,13 @@ mod judge;
 mod printing;
 mod record;
 mod said;
-mod seat;
 mod switch;
+mod traced;
 
 pub use giving::{GaveOut, judge_giving, unreleased};
 pub use judge::{is_told, judge_call};
-pub use printing::{Told, judge_printing, unprinted};
+pub use printing::{PrintOutcome, judge_printing, unprinted};
 pub use record::Record;
 pub use said::said_act;
-pub use seat::Seat;
 pub use switch::{judge_cut, judge_off, judge_on};
+pub use traced::Traced;

@@ -5,14 +5,14 @@ ghost use Rattle.node_acts.specs.Acts.{commit_of};
 ghost use Rattle.node_acts.specs.Plans.{IsOfNode, view_after};
 ghost use Rattle.node_acts.specs.Said.{IsPlain, seen_plan};
 ghost use Rattle.script_text.specs.Texts.{text_of};
-ghost use Rattle.script_text.specs.Told.{IsWholeReply};
-ghost use Rattle.trace_nodes.specs.Seats.{view_of, IsSettled, FitsAct};
+ghost use Rattle.script_text.specs.ReplyRanges.{IsWholeReply};
+ghost use Rattle.trace_nodes.specs.TracedNodes.{view_of, IsSettled, FitsAct};
 ghost use Rattle.trace_nodes.specs.Judged as judged_as;
 ghost use Rattle.trace_nodes.specs.Judged.{JudgedPrinting};
 
 use crate::judge::{due_reply, is_told, take_outcome, told_outcome};
 use crate::record::Record;
-use crate::seat::Seat;
+use crate::traced::Traced;
 use bench_base::bytes::Note;
 use bench_base::events::Reply;
 use bench_base::words::Node;
@@ -20,7 +20,7 @@ use node_acts::{Act, Said};
 
 /// What is told of a call that may print.
 #[derive(Clone, Copy)]
-pub struct Told {
+pub struct PrintOutcome {
     /// The message that it sent.
     pub sent: Option<Note>,
     /// Whether the printer failed, behind the commit.
@@ -28,11 +28,11 @@ pub struct Told {
 }
 
 /// What is told of an event that prints nothing.
-pub fn unprinted(judged: &Result<Option<Note>, Reply>) -> Result<Told, Reply>
+pub fn unprinted(judged: &Result<Option<Note>, Reply>) -> Result<PrintOutcome, Reply>
     ensures { result ≡ judged_as.unprinted judged.now }
 {
     match judged {
-        Ok(sent) => Ok(Told {
+        Ok(sent) => Ok(PrintOutcome {
             sent: *sent,
             cut: false,
         }),
@@ -108,51 +108,51 @@ fn is_cut_off(answer: &Reply, line: &[u8]) -> bool
 
 // Leaves the node as a call of this act leaves it whose print failed.
 fn take_unprinted<R: Record<X>, X: Copy>(
-    seat: &mut Seat<R, X>,
+    traced: &mut Traced<R, X>,
     act: &Act<X, Reply, Said>,
     due: &Reply,
     node: &Node,
 )
-    requires settled { IsSettled R.counting R.IsFit R.seen seat.old }
-    requires fits { FitsAct R.IsFit (R.seen seat.old.record) act.now }
-    requires due { due.now ≡ (seen_plan R.counting node.now (view_of R.counting R.seen seat.old) act.now).reply }
+    requires settled { IsSettled R.counting R.IsFit R.seen traced.old }
+    requires fits { FitsAct R.IsFit (R.seen traced.old.record) act.now }
+    requires due { due.now ≡ (seen_plan R.counting node.now (view_of R.counting R.seen traced.old) act.now).reply }
     requires printed { (j : ℕ) × (due.now ≡ r.Printed j) }
-    ensures settled { IsSettled R.counting R.IsFit R.seen seat.new }
-    ensures leaves { (j : ℕ) → view_of R.counting R.seen seat.new
-        ≡ view_after R.counting (r.PrinterFault j) (commit_of R.counting (view_of R.counting R.seen seat.old) act.now) (view_of R.counting R.seen seat.old) }
+    ensures settled { IsSettled R.counting R.IsFit R.seen traced.new }
+    ensures leaves { (j : ℕ) → view_of R.counting R.seen traced.new
+        ≡ view_after R.counting (r.PrinterFault j) (commit_of R.counting (view_of R.counting R.seen traced.old) act.now) (view_of R.counting R.seen traced.old) }
 {
     if let Act::Commits(_, change, _) = act {
-        seat.record.put(change);
+        traced.record.put(change);
     }
 }
 
 /// Judges the line of a call that may print: as `judge_call`, and where the printer may fail behind the commit.
 pub fn judge_printing<R: Record<X>, X: Copy>(
-    seat: &mut Seat<R, X>,
+    traced: &mut Traced<R, X>,
     node: &Node,
     act: &Act<X, Reply, Said>,
     line: &[u8],
-) -> Result<Told, Reply>
-    requires settled { IsSettled R.counting R.IsFit R.seen seat.old }
-    requires fits { FitsAct R.IsFit (R.seen seat.old.record) act.now }
+) -> Result<PrintOutcome, Reply>
+    requires settled { IsSettled R.counting R.IsFit R.seen traced.old }
+    requires fits { FitsAct R.IsFit (R.seen traced.old.record) act.now }
     requires own { IsOfNode node.now act.now }
     requires plain { IsPlain act.now }
-    ensures settled { IsSettled R.counting R.IsFit R.seen seat.new }
-    ensures judged { JudgedPrinting R.counting node.now (view_of R.counting R.seen seat.old) act.now line.now (view_of R.counting R.seen seat.new) result }
+    ensures settled { IsSettled R.counting R.IsFit R.seen traced.new }
+    ensures judged { JudgedPrinting R.counting node.now (view_of R.counting R.seen traced.old) act.now line.now (view_of R.counting R.seen traced.new) result }
 {
-    let told = told_outcome(seat, node, act, line);
+    let told = told_outcome(traced, node, act, line);
     match &told {
         Some(outcome) => {
-            let sent = take_outcome(seat, node, act, outcome);
-            Ok(Told { sent, cut: false })
+            let sent = take_outcome(traced, node, act, outcome);
+            Ok(PrintOutcome { sent, cut: false })
         }
         None => {
-            let due = due_reply(seat, node, act);
+            let due = due_reply(traced, node, act);
             if !is_cut_off(&due, line) {
                 return Err(due);
             }
-            take_unprinted(seat, act, &due, node);
-            Ok(Told {
+            take_unprinted(traced, act, &due, node);
+            Ok(PrintOutcome {
                 sent: None,
                 cut: true,
             })

@@ -1,11 +1,11 @@
 //! Whether a line of the report can be the reply to an event that switches a node on or off, or arms the fuse of its storage.
 ghost use Rattle.bench_base.specs.Ranges.{IsNode};
-ghost use Rattle.trace_nodes.specs.Seats.{view_of, IsSettled};
+ghost use Rattle.trace_nodes.specs.TracedNodes.{view_of, IsSettled};
 ghost use Rattle.trace_nodes.specs.Judged.{JudgedOn, JudgedOff, JudgedCut};
 
 use crate::judge::is_told;
 use crate::record::Record;
-use crate::seat::Seat;
+use crate::traced::Traced;
 use bench_base::bytes::Note;
 use bench_base::events::Reply;
 use bench_base::words::Node;
@@ -26,17 +26,17 @@ fn names_a_node(node: &Node)
 /// Judges the line of an `on`. A node that is off comes on with its commits, or, where one is open, with that one more; or it fails, and
 /// stays off.
 pub fn judge_on<R: Record<X>, X: Copy>(
-    seat: &mut Seat<R, X>,
+    traced: &mut Traced<R, X>,
     node: &Node,
     line: &[u8],
 ) -> Result<Option<Note>, Reply>
-    requires settled { IsSettled R.counting R.IsFit R.seen seat.old }
-    ensures settled { IsSettled R.counting R.IsFit R.seen seat.new }
-    ensures judged { JudgedOn R.counting node.now (view_of R.counting R.seen seat.old) line.now (view_of R.counting R.seen seat.new) result }
+    requires settled { IsSettled R.counting R.IsFit R.seen traced.old }
+    ensures settled { IsSettled R.counting R.IsFit R.seen traced.new }
+    ensures judged { JudgedOn R.counting node.now (view_of R.counting R.seen traced.old) line.now (view_of R.counting R.seen traced.new) result }
 {
     one_reply();
     names_a_node(node);
-    if seat.on {
+    if traced.on {
         let due = Reply::OnAlready(*node);
         return if is_told(&due, line) {
             Ok(None)
@@ -44,17 +44,17 @@ pub fn judge_on<R: Record<X>, X: Copy>(
             Err(due)
         };
     }
-    let commits = seat.record.commits();
+    let commits = traced.record.commits();
     let due = Reply::Up {
         node: *node,
         commits,
     };
     if is_told(&due, line) {
-        seat.open = None;
-        seat.on = true;
+        traced.open = None;
+        traced.on = true;
         return Ok(None);
     }
-    if let Some(change) = seat.open {
+    if let Some(change) = traced.open {
         if is_told(
             &Reply::Up {
                 node: *node,
@@ -62,9 +62,9 @@ pub fn judge_on<R: Record<X>, X: Copy>(
             },
             line,
         ) {
-            seat.record.put(&change);
-            seat.open = None;
-            seat.on = true;
+            traced.record.put(&change);
+            traced.open = None;
+            traced.on = true;
             return Ok(None);
         }
     }
@@ -79,15 +79,15 @@ pub fn judge_on<R: Record<X>, X: Copy>(
 
 /// Judges the line of an `off`.
 pub fn judge_off<R: Record<X>, X: Copy>(
-    seat: &mut Seat<R, X>,
+    traced: &mut Traced<R, X>,
     node: &Node,
     line: &[u8],
 ) -> Result<Option<Note>, Reply>
-    requires settled { IsSettled R.counting R.IsFit R.seen seat.old }
-    ensures settled { IsSettled R.counting R.IsFit R.seen seat.new }
-    ensures judged { JudgedOff R.counting node.now (view_of R.counting R.seen seat.old) line.now (view_of R.counting R.seen seat.new) result }
+    requires settled { IsSettled R.counting R.IsFit R.seen traced.old }
+    ensures settled { IsSettled R.counting R.IsFit R.seen traced.new }
+    ensures judged { JudgedOff R.counting node.now (view_of R.counting R.seen traced.old) line.now (view_of R.counting R.seen traced.new) result }
 {
-    if !seat.on {
+    if !traced.on {
         let due = Reply::OffNode(*node);
         return if is_told(&due, line) {
             Ok(None)
@@ -97,7 +97,7 @@ pub fn judge_off<R: Record<X>, X: Copy>(
     }
     let due = Reply::Down(*node);
     if is_told(&due, line) {
-        seat.on = false;
+        traced.on = false;
         return Ok(None);
     }
     Err(due)
@@ -105,11 +105,11 @@ pub fn judge_off<R: Record<X>, X: Copy>(
 
 /// Judges the line of a `cut`, which no record tells of.
 pub fn judge_cut<R: Record<X>, X: Copy>(
-    seat: &Seat<R, X>,
+    traced: &Traced<R, X>,
     node: &Node,
     line: &[u8],
 ) -> Result<Option<Note>, Reply>
-    ensures judged { JudgedCut R.counting node.now (view_of R.counting R.seen seat.now) line.now (view_of R.counting R.seen seat.now) result }
+    ensures judged { JudgedCut R.counting node.now (view_of R.counting R.seen traced.now) line.now (view_of R.counting R.seen traced.now) result }
 {
     let due = Reply::CutSet(*node);
     if is_told(&due, line) {

@@ -11,7 +11,6 @@ use Rattle.trace_runs.specs.Counted.{TookLines, HasAnswers}
 use Rattle.trace_runs.specs.Takes.{EndsAfter, AnswerTakes, answers_at, answers_behind}
 use Rattle.trace_runs.specs.declared.verdict.Ending.{Ending}
 use Rattle.trace_runs.specs.declared.verdict.Verdict.{Verdict}
-use Rattle.trace_runs.specs.declared.verdict.Verdict.TheVariants.{Lawful}
 use Rattle.trace_runs.proofs.WasRead.{ReadAs}
 
 each_of_both : (a b : List (List ℕ)) → AllByRecursion IsOneLine a → AllByRecursion IsOneLine b → AllByRecursion IsOneLine (a ++ b)

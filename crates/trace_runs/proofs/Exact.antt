@@ -6,29 +6,29 @@ use Rattle.bench_base.specs.declared.events.Event.TheVariants as ev
 use Rattle.bench_base.specs.declared.events.Reply.{Reply}
 use Rattle.bench_base.specs.declared.ledger.Entry.TheVariants.{Begin}
 use Rattle.bench_base.specs.Ledger.{Ledger, day_in}
-use Rattle.bench_base.specs.Replies.{told_by}
+use Rattle.bench_base.specs.Replies.{class_of}
 use Rattle.bench_base.specs.Rules.{todays_rules}
 use Rattle.ledger_moves.specs.Tariffs.{Tariff}
 use Rattle.ledger_moves.specs.Moves.{Moves}
 use Rattle.ledger_moves.specs.Histories.{Unforged}
 use Rattle.script_text.specs.Grammar.{Spells, IsSkipped}
 use Rattle.script_text.specs.Texts.{text_of}
-use Rattle.script_text.specs.Told.{IsWholeReply, told}
+use Rattle.script_text.specs.ReplyRanges.{IsWholeReply, told}
 use Rattle.script_text.proofs.EventsBack.{one_event_of, no_event_skipped}
-use Rattle.line_runs.specs.Deeds.{Reads, report_of}
+use Rattle.line_runs.specs.Trace.{Reads, report_of}
 use Rattle.line_runs.specs.Ends.{EndsAt, IsPassed}
 use Rattle.line_runs.specs.Lines.{IsOneLine, ended}
 use Rattle.line_runs.specs.declared.status.Status.TheVariants as status
-use Rattle.line_extensions.specs.Deeds as deed
-use Rattle.line_extensions.specs.Deeds.{Done, Deed, Did, GoesOn, done_in, line_of}
+use Rattle.line_extensions.specs.Trace as traces
+use Rattle.line_extensions.specs.Trace.{StepRecord, TraceStep, Did, GoesOn, done_in, line_of}
 use Rattle.line_extensions.specs.Scripts.{script_lines, script_grammar}
 use Rattle.line_extensions.specs.ScriptLaws.{is_grammar}
-use Rattle.script_replay.specs.Deeds.{ledger_after}
+use Rattle.script_replay.specs.Trace.{ledger_after}
 use Rattle.trace_bench.specs.Judging.{IsUntold, MayGet, taken_by}
 use Rattle.trace_bench.specs.Seeing.{Audit}
-use Rattle.trace_bench.specs.Stopping.{IsFrontOf}
+use Rattle.trace_bench.specs.Stopping.{IsPrefixOf}
 use Rattle.trace_runs.specs.Audits.{MayTell}
-use Rattle.trace_runs.specs.Verdicts.{Pair, Skipped, Answered, IsPair, line_in, text_for, status_of, IsEvent, HasLine, HasSome, has_line, has_front, EndsSo, FallsAt, IsWrong, IsSo, TellsSo, Says, imprints_from}
+use Rattle.trace_runs.specs.Verdicts.{Pair, Skipped, Answered, IsPair, line_in, text_for, status_of, IsEvent, HasLine, HasSome, has_line, has_prefix, EndsSo, FallsAt, IsWrong, IsSo, TellsSo, Says, imprints_from}
 use Rattle.trace_runs.specs.Prints.{ArePrinted}
 use Rattle.trace_runs.specs.Fitting.{FitsPrinted, AreTold, rates_after, FitsFirst, FitsToEnd, FitsStopped, EndsTold, BeginsTold, IsCutShort, IsLawful, IsStoppedAt, IsExact}
 use Rattle.trace_runs.specs.declared.verdict.Ending.{Ending}
@@ -37,7 +37,7 @@ use Rattle.trace_runs.specs.declared.verdict.Verdict.{Verdict}
 use Rattle.trace_runs.specs.declared.verdict.Verdict.TheVariants.{Lawful, Stopped, Wrong, Forged, Unkept, More, Memory, Unread}
 use Rattle.trace_runs.proofs.Fitted.{Made, made, lawful_ends, stopped_begins}
 use Rattle.trace_runs.proofs.MadePrinted.{made_printed}
-use Rattle.trace_runs.proofs.Comparing.{front_one, Compared, longer, shorter, compare, one_split}
+use Rattle.trace_runs.proofs.Comparing.{prefix_one, Compared, longer, shorter, compare, one_split}
 
 -- == lines behind which a run goes on ==
 
@@ -53,9 +53,9 @@ pair_passes : (p : Pair) → IsPair p → IsPassed script_grammar (line_in p)
 pair_passes (Skipped line) is = (is.short, inl is.is)
 pair_passes (Answered line e answer given) is = (is.short, inr (e, is.is.0, is.is.2))
 
-deed_passes : (d : Deed) → Reads script_lines d → GoesOn d → IsPassed script_grammar (deed.line_in d)
-deed_passes (deed.Skipped line) reads goes = (reads.short, inl reads.is)
-deed_passes (Did line d) reads goes = (reads.short, inr (d.event, reads.is.0, goes))
+trace_step_passes : (d : TraceStep) → Reads script_lines d → GoesOn d → IsPassed script_grammar (traces.line_in d)
+trace_step_passes (traces.Skipped line) reads goes = (reads.short, inl reads.is)
+trace_step_passes (Did line d) reads goes = (reads.short, inr (d.event, reads.is.0, goes))
 
 -- the line of an event ends a run where it is that of `end` alone
 event_ends : (end : Ending) (number : ℕ) (rest : List (List ℕ)) (e : Event) → IsEvent number rest e → EndsAt script_grammar (status_of end) number rest → (end ≡ Ended) × (e ≡ ev.End)
@@ -86,55 +86,55 @@ not_one : (a x : List ℕ) → IsOneLine (ended a ++ x) → ⊥
 not_one [] x one = one.0 refl
 not_one (c ∷ a) x one = not_one a x one.1
 
--- bytes without a line end that a line and what is behind it begin with are a front of the line
-front_of_line : (text x front behind : List ℕ) → IsOneLine front → ended text ++ x ≡ front ++ behind → IsFrontOf front text
-front_of_line text x [] behind one is = (text, refl)
-front_of_line [] x (c ∷ front) behind one is = let same : c ≡ 10 = cc is in absurd (one.0 same)
-front_of_line (t ∷ text) x (c ∷ front) behind one is =
+-- bytes without a line end that a line and what is behind it begin with are a prefix of the line
+prefix_of_line : (text x prefix behind : List ℕ) → IsOneLine prefix → ended text ++ x ≡ prefix ++ behind → IsPrefixOf prefix text
+prefix_of_line text x [] behind one is = (text, refl)
+prefix_of_line [] x (c ∷ prefix) behind one is = let same : c ≡ 10 = cc is in absurd (one.0 same)
+prefix_of_line (t ∷ text) x (c ∷ prefix) behind one is =
     let head : t ≡ c = cc is in
-    let w = front_of_line text x front behind one.1 (cc is) in
+    let w = prefix_of_line text x prefix behind one.1 (cc is) in
     (w.0, ap (λ (n : ℕ). n ∷ text) head ∙ ap (λ (l : List ℕ). c ∷ l) w.1)
 
 module _ (one : (x y : Reply) → IsWholeReply x → IsWholeReply y → text_of x ≡ text_of y → told x ≡ told y) (line : (r : Reply) → IsWholeReply r → IsOneLine (text_of r)) where
   -- what the event may get, where that is told
-  may_get : (τ : Tariff) (K : Ledger) (l told_is : List ℕ) (e : Event) (d : Done) → d.event ≡ e → MayTell τ K l d → MayGet τ K e l told_is d.reply
+  may_get : (τ : Tariff) (K : Ledger) (l told_is : List ℕ) (e : Event) (d : StepRecord) → d.event ≡ e → MayTell τ K l d → MayGet τ K e l told_is d.reply
   may_get τ K l told_is e d event may =
-      let moves : Moves τ todays_rules K d.event (taken_by d.event (day_in K) (told_by d.reply) l) d.reply = subst (λ (t : List ℕ). Moves τ todays_rules K d.event t d.reply) may.takes may.moves in
-      subst (λ (f : Event). Moves τ todays_rules K f (taken_by f (day_in K) (told_by d.reply) l) d.reply) event moves
+      let moves : Moves τ todays_rules K d.event (taken_by d.event (day_in K) (class_of d.reply) l) d.reply = subst (λ (t : List ℕ). Moves τ todays_rules K d.event t d.reply) may.takes may.moves in
+      subst (λ (f : Event). Moves τ todays_rules K f (taken_by f (day_in K) (class_of d.reply) l) d.reply) event moves
 
   -- no reply that may be told has a line of which it was said that none has it
-  untold_not : (τ : Tariff) (K : Ledger) (l : List ℕ) (e : Event) (answer behind told_is : List ℕ) (new : Audit) (due : Reply) (d : Done) (x : List ℕ) → HasLine told_is answer behind
+  untold_not : (τ : Tariff) (K : Ledger) (l : List ℕ) (e : Event) (answer behind told_is : List ℕ) (new : Audit) (due : Reply) (d : StepRecord) (x : List ℕ) → HasLine told_is answer behind
       → IsUntold τ K e l answer new due → d.event ≡ e → MayTell τ K l d → told_is ≡ line_of d.reply ++ x → ⊥
   untold_not τ K l e answer behind told_is new due d x has untold event may is =
       let split = one_split (text_of d.reply) answer x behind (line d.reply may.whole) has.one (sym is ∙ has.is) in
       untold.none d.reply (may_get τ K l answer e d event may) split.0
 
   -- no reply that may be told has a line where the report has that of none
-  wrong_not : (τ : Tariff) (K : Ledger) (l : List ℕ) (e : Event) (told_is : List ℕ) (new : Audit) (due : Reply) (d : Done) (x : List ℕ) (has : HasSome told_is)
+  wrong_not : (τ : Tariff) (K : Ledger) (l : List ℕ) (e : Event) (told_is : List ℕ) (new : Audit) (due : Reply) (d : StepRecord) (x : List ℕ) (has : HasSome told_is)
       → IsWrong τ K l new e due told_is has → d.event ≡ e → MayTell τ K l d → told_is ≡ line_of d.reply ++ x → ⊥
   wrong_not τ K l e told_is new due d x (has_line answer behind has) wrong event may is = untold_not τ K l e answer behind told_is new due d x has wrong event may is
-  wrong_not τ K l e told_is new due d x (has_front front behind begins one) wrong event may is =
-      wrong.none d.reply (record { moves = may_get τ K l front e d event may; whole = may.whole; begins = front_of_line (text_of d.reply) x front behind one (sym is ∙ begins) })
+  wrong_not τ K l e told_is new due d x (has_prefix prefix behind begins one) wrong event may is =
+      wrong.none d.reply (record { moves = may_get τ K l prefix e d event may; whole = may.whole; begins = prefix_of_line (text_of d.reply) x prefix behind one (sym is ∙ begins) })
 
   -- nothing goes on behind where the verdict falls
   goes_past : (v : Verdict) (number : ℕ) (rest : List (List ℕ)) (told_is : List ℕ) (falls : FallsAt number rest told_is v) (τ : Tariff) (K : Ledger) (l : List ℕ) (new : Audit) → IsSo τ K l new number rest told_is v falls
-      → number ≤ 1000000 → (d : Deed) (more : List Deed) (lines : List (List ℕ)) (x : List ℕ) → Reads script_lines d → GoesOn d → rest ≡ deed.line_in d ∷ lines → told_is ≡ deed.text_for d ++ x
+      → number ≤ 1000000 → (d : TraceStep) (more : List TraceStep) (lines : List (List ℕ)) (x : List ℕ) → Reads script_lines d → GoesOn d → rest ≡ traces.line_in d ∷ lines → told_is ≡ traces.text_for d ++ x
       → AreTold τ K l (done_in (d ∷ more)) → IsCutShort v
   goes_past (Lawful end) number rest told_is falls τ K l new so inside d more lines x reads goes rest_is text are =
-      absurd (not_end end number (deed.line_in d) lines inside (deed_passes d reads goes) (subst (λ (r : List (List ℕ)). EndsAt script_grammar (status_of end) number r) rest_is falls.script))
+      absurd (not_end end number (traces.line_in d) lines inside (trace_step_passes d reads goes) (subst (λ (r : List (List ℕ)). EndsAt script_grammar (status_of end) number r) rest_is falls.script))
   goes_past (More n) number rest told_is falls τ K l new so inside d more lines x reads goes rest_is text are =
-      absurd (not_end falls.1 number (deed.line_in d) lines inside (deed_passes d reads goes) (subst (λ (r : List (List ℕ)). EndsAt script_grammar (status_of falls.1) number r) rest_is falls.3.script))
-  goes_past (Stopped n) number rest told_is falls τ K l new so inside (deed.Skipped y) more lines x reads goes rest_is text are =
+      absurd (not_end falls.1 number (traces.line_in d) lines inside (trace_step_passes d reads goes) (subst (λ (r : List (List ℕ)). EndsAt script_grammar (status_of falls.1) number r) rest_is falls.3.script))
+  goes_past (Stopped n) number rest told_is falls τ K l new so inside (traces.Skipped y) more lines x reads goes rest_is text are =
       absurd (skips_none number rest falls.1 falls.3 y lines rest_is reads.is)
   goes_past (Stopped n) number rest told_is falls τ K l new so inside (Did y d) more lines x reads goes rest_is text are =
       absurd (not_one (text_of d.reply) x (subst (λ (z : List ℕ). IsOneLine z) text falls.4))
-  goes_past (Wrong n due) number rest told_is falls τ K l new so inside (deed.Skipped y) more lines x reads goes rest_is text are =
+  goes_past (Wrong n due) number rest told_is falls τ K l new so inside (traces.Skipped y) more lines x reads goes rest_is text are =
       absurd (skips_none number rest falls.1 falls.2 y lines rest_is reads.is)
   goes_past (Wrong n due) number rest told_is falls τ K l new so inside (Did y d) more lines x reads goes rest_is text are =
       let same : falls.2.line ≡ y = cc (falls.2.rest_is, rest_is) in
       let event : d.event ≡ falls.1 = one_event_of d.event falls.1 y reads.is.0.whole falls.2.is.whole reads.is.0.spells (subst (λ (z : List ℕ). Spells falls.1 z) same falls.2.is.spells) in
       absurd (wrong_not τ K l falls.1 told_is new due d x falls.3 so.1 event are.0 text)
-  goes_past (Forged n) number rest told_is falls τ K l new so inside (deed.Skipped y) more lines x reads goes rest_is text are =
+  goes_past (Forged n) number rest told_is falls τ K l new so inside (traces.Skipped y) more lines x reads goes rest_is text are =
       absurd (skips_none number rest falls.1 falls.2 y lines rest_is reads.is)
   goes_past (Forged n) number rest told_is falls τ K l new so inside (Did y d) more lines x reads goes rest_is text are =
       let same : falls.2.line ≡ y = cc (falls.2.rest_is, rest_is) in
@@ -200,7 +200,7 @@ module _ (one : (x y : Reply) → IsWholeReply x → IsWholeReply y → text_of 
   stops_there v number rest told_is falls τ K l new so e next begins = by v falls so
     where
       one_told : IsOneLine told_is
-      one_told = front_one told_is begins.3.0 (subst (λ (z : List ℕ). IsOneLine z) begins.3.1 (line begins.0.reply begins.2.whole))
+      one_told = prefix_one told_is begins.3.0 (subst (λ (z : List ℕ). IsOneLine z) begins.3.1 (line begins.0.reply begins.2.whole))
 
       not_ended : (end : Ending) (behind : List ℕ) → EndsSo number rest told_is end behind → ⊥
       not_ended Ended behind at = not_one at.report.0 behind (subst (λ (z : List ℕ). IsOneLine z) at.report.1.is one_told)
@@ -209,11 +209,11 @@ module _ (one : (x y : Reply) → IsWholeReply x → IsWholeReply y → text_of 
 
       not_wrong : (f : Event) (due : Reply) → e ≡ f → (has : HasSome told_is) → IsWrong τ K l new f due told_is has → ⊥
       not_wrong f due same (has_line answer behind has) wrong = not_one answer behind (subst (λ (z : List ℕ). IsOneLine z) has.is one_told)
-      not_wrong f due same (has_front front behind goes one) wrong =
+      not_wrong f due same (has_prefix prefix behind goes one) wrong =
           wrong.none begins.0.reply (record {
-            moves = may_get τ K l front f begins.0 (begins.1 ∙ same) begins.2;
+            moves = may_get τ K l prefix f begins.0 (begins.1 ∙ same) begins.2;
             whole = begins.2.whole;
-            begins = (behind ++ begins.3.0, begins.3.1 ∙ ap (λ (z : List ℕ). z ++ begins.3.0) goes ∙ append_assoc front behind begins.3.0);
+            begins = (behind ++ begins.3.0, begins.3.1 ∙ ap (λ (z : List ℕ). z ++ begins.3.0) goes ∙ append_assoc prefix behind begins.3.0);
           })
 
       by : (x : Verdict) (at : FallsAt number rest told_is x) → IsSo τ K l new number rest told_is x at → IsStoppedAt x number
@@ -231,73 +231,73 @@ module _ (one : (x y : Reply) → IsWholeReply x → IsWholeReply y → text_of 
     abbrev Falls : Tariff → Ledger → List ℕ → Type 0
     Falls τ K left = IsSo τ K left new (length says.pairs + 1) says.rest says.told v says.falls
 
-    beside : (τ : Tariff) (H : Ledger) (deeds : List Deed) (fits : FitsFirst τ (Begin ∷ H) script report rates deeds) → TellsSo τ (Falls τ) (Begin ∷ H) rates says.pairs
-        → Compared τ (Falls τ) (Begin ∷ H) rates says.pairs deeds says.rest fits.rest says.told fits.told
-    beside τ H deeds fits so =
-        compare one line τ (Falls τ) (Begin ∷ H) rates says.pairs deeds says.rest fits.rest says.told fits.told says.front.each fits.each fits.go_on
-        (sym says.front.script_is ∙ fits.script_is) (sym says.front.report_is ∙ fits.report_is) so fits.are
+    beside : (τ : Tariff) (H : Ledger) (trace : List TraceStep) (fits : FitsFirst τ (Begin ∷ H) script report rates trace) → TellsSo τ (Falls τ) (Begin ∷ H) rates says.pairs
+        → Compared τ (Falls τ) (Begin ∷ H) rates says.pairs trace says.rest fits.rest says.told fits.told
+    beside τ H trace fits so =
+        compare one line τ (Falls τ) (Begin ∷ H) rates says.pairs trace says.rest fits.rest says.told fits.told says.prefix.each fits.each fits.go_on
+        (sym says.prefix.script_is ∙ fits.script_is) (sym says.prefix.report_is ∙ fits.report_is) so fits.are
 
-    no_longer : (τ : Tariff) (H : Ledger) (deeds : List Deed) (rb : List (List ℕ)) (tb : List ℕ) → length deeds ≤ 1000000 → (IsCutShort v → ⊥)
-        → Compared τ (Falls τ) (Begin ∷ H) rates says.pairs deeds says.rest rb says.told tb → length deeds ≤ length says.pairs
-    no_longer τ H deeds rb tb few other (longer [] K l size so reads goes lines texts are behind left) = omega (arith, size)
-    no_longer τ H deeds rb tb few other (longer (d ∷ more) K l size so reads goes lines texts are behind left) =
-        absurd (other (goes_past v (length says.pairs + 1) says.rest says.told says.falls τ K l new so (omega (arith, size, few)) d more (map deed.line_in more ++ rb) (report_of script_lines more ++ tb)
-        reads.0 goes.0 lines (texts ∙ append_assoc (deed.text_for d) (report_of script_lines more) tb) are))
-    no_longer τ H deeds rb tb few other (shorter p more size is lines texts) = omega (arith, size)
+    no_longer : (τ : Tariff) (H : Ledger) (trace : List TraceStep) (rb : List (List ℕ)) (tb : List ℕ) → length trace ≤ 1000000 → (IsCutShort v → ⊥)
+        → Compared τ (Falls τ) (Begin ∷ H) rates says.pairs trace says.rest rb says.told tb → length trace ≤ length says.pairs
+    no_longer τ H trace rb tb few other (longer [] K l size so reads goes lines texts are behind left) = omega (arith, size)
+    no_longer τ H trace rb tb few other (longer (d ∷ more) K l size so reads goes lines texts are behind left) =
+        absurd (other (goes_past v (length says.pairs + 1) says.rest says.told says.falls τ K l new so (omega (arith, size, few)) d more (map traces.line_in more ++ rb) (report_of script_lines more ++ tb)
+        reads.0 goes.0 lines (texts ∙ append_assoc (traces.text_for d) (report_of script_lines more) tb) are))
+    no_longer τ H trace rb tb few other (shorter p more size is lines texts) = omega (arith, size)
 
-    whole : (τ : Tariff) (H : Ledger) (deeds : List Deed) (fw : FitsToEnd τ (Begin ∷ H) script report rates deeds)
-        → Compared τ (Falls τ) (Begin ∷ H) rates says.pairs deeds says.rest fw.fits.rest says.told fw.fits.told → IsLawful v
-    whole τ H deeds fw (longer [] K l size so reads goes lines texts are behind left) =
-        let number : length deeds + 1 ≡ length says.pairs + 1 = omega (arith, size) in
+    whole : (τ : Tariff) (H : Ledger) (trace : List TraceStep) (fw : FitsToEnd τ (Begin ∷ H) script report rates trace)
+        → Compared τ (Falls τ) (Begin ∷ H) rates says.pairs trace says.rest fw.fits.rest says.told fw.fits.told → IsLawful v
+    whole τ H trace fw (longer [] K l size so reads goes lines texts are behind left) =
+        let number : length trace + 1 ≡ length says.pairs + 1 = omega (arith, size) in
         ends_there v (length says.pairs + 1) says.rest says.told says.falls τ K l new so fw.end
-        (subst (λ (n : ℕ). EndsAt script_grammar (status_of fw.end) n says.rest) number (subst (λ (r : List (List ℕ)). EndsAt script_grammar (status_of fw.end) (length deeds + 1) r) (sym lines) fw.ends))
+        (subst (λ (n : ℕ). EndsAt script_grammar (status_of fw.end) n says.rest) number (subst (λ (r : List (List ℕ)). EndsAt script_grammar (status_of fw.end) (length trace + 1) r) (sym lines) fw.ends))
         (subst (λ (x : Ledger). EndsTold τ x l fw.end says.told) (sym behind)
-        (subst (λ (x : List ℕ). EndsTold τ (ledger_after τ (Begin ∷ H) (done_in deeds)) x fw.end says.told) (sym left)
-        (subst (λ (x : List ℕ). EndsTold τ (ledger_after τ (Begin ∷ H) (done_in deeds)) (rates_after rates (done_in deeds)) fw.end x) (sym texts) fw.ends_told)))
-    whole τ H deeds fw (longer (d ∷ more) K l size so reads goes lines texts are behind left) =
-        inr (goes_past v (length says.pairs + 1) says.rest says.told says.falls τ K l new so (omega (arith, size, fw.fits.few)) d more (map deed.line_in more ++ fw.fits.rest) (report_of script_lines more ++ fw.fits.told)
-        reads.0 goes.0 lines (texts ∙ append_assoc (deed.text_for d) (report_of script_lines more) fw.fits.told) are)
-    whole τ H deeds fw (shorter p more size is lines texts) =
-        absurd (not_end fw.end (length deeds + 1) (line_in p) (map line_in more ++ says.rest) (omega (arith, size, says.front.few)) (pair_passes p is)
-        (subst (λ (r : List (List ℕ)). EndsAt script_grammar (status_of fw.end) (length deeds + 1) r) lines fw.ends))
+        (subst (λ (x : List ℕ). EndsTold τ (ledger_after τ (Begin ∷ H) (done_in trace)) x fw.end says.told) (sym left)
+        (subst (λ (x : List ℕ). EndsTold τ (ledger_after τ (Begin ∷ H) (done_in trace)) (rates_after rates (done_in trace)) fw.end x) (sym texts) fw.ends_told)))
+    whole τ H trace fw (longer (d ∷ more) K l size so reads goes lines texts are behind left) =
+        inr (goes_past v (length says.pairs + 1) says.rest says.told says.falls τ K l new so (omega (arith, size, fw.fits.few)) d more (map traces.line_in more ++ fw.fits.rest) (report_of script_lines more ++ fw.fits.told)
+        reads.0 goes.0 lines (texts ∙ append_assoc (traces.text_for d) (report_of script_lines more) fw.fits.told) are)
+    whole τ H trace fw (shorter p more size is lines texts) =
+        absurd (not_end fw.end (length trace + 1) (line_in p) (map line_in more ++ says.rest) (omega (arith, size, says.prefix.few)) (pair_passes p is)
+        (subst (λ (r : List (List ℕ)). EndsAt script_grammar (status_of fw.end) (length trace + 1) r) lines fw.ends))
 
     -- where the run may have been stopped behind them, it was
-    stops_whole : (τ : Tariff) (H : Ledger) (deeds : List Deed) (fw : FitsStopped τ (Begin ∷ H) script report rates deeds)
-        → Compared τ (Falls τ) (Begin ∷ H) rates says.pairs deeds says.rest fw.fits.rest says.told fw.fits.told → IsStoppedAt v (length deeds + 1)
-    stops_whole τ H deeds fw (longer [] K l size so reads goes lines texts are behind left) =
-        let number : length deeds + 1 ≡ length says.pairs + 1 = omega (arith, size) in
+    stops_whole : (τ : Tariff) (H : Ledger) (trace : List TraceStep) (fw : FitsStopped τ (Begin ∷ H) script report rates trace)
+        → Compared τ (Falls τ) (Begin ∷ H) rates says.pairs trace says.rest fw.fits.rest says.told fw.fits.told → IsStoppedAt v (length trace + 1)
+    stops_whole τ H trace fw (longer [] K l size so reads goes lines texts are behind left) =
+        let number : length trace + 1 ≡ length says.pairs + 1 = omega (arith, size) in
         subst (λ (n : ℕ). IsStoppedAt v n) (sym number)
         (stops_there v (length says.pairs + 1) says.rest says.told says.falls τ K l new so fw.event
-        (subst (λ (n : ℕ). IsEvent n says.rest fw.event) number (subst (λ (r : List (List ℕ)). IsEvent (length deeds + 1) r fw.event) (sym lines) fw.next))
+        (subst (λ (n : ℕ). IsEvent n says.rest fw.event) number (subst (λ (r : List (List ℕ)). IsEvent (length trace + 1) r fw.event) (sym lines) fw.next))
         (subst (λ (x : Ledger). BeginsTold τ x l fw.event says.told) (sym behind)
-        (subst (λ (x : List ℕ). BeginsTold τ (ledger_after τ (Begin ∷ H) (done_in deeds)) x fw.event says.told) (sym left)
-        (subst (λ (x : List ℕ). BeginsTold τ (ledger_after τ (Begin ∷ H) (done_in deeds)) (rates_after rates (done_in deeds)) fw.event x) (sym texts) fw.begins))))
-    stops_whole τ H deeds fw (longer (d ∷ more) K l size so reads goes lines texts are behind left) =
-        inr (goes_past v (length says.pairs + 1) says.rest says.told says.falls τ K l new so (omega (arith, size, fw.fits.few)) d more (map deed.line_in more ++ fw.fits.rest) (report_of script_lines more ++ fw.fits.told)
-        reads.0 goes.0 lines (texts ∙ append_assoc (deed.text_for d) (report_of script_lines more) fw.fits.told) are)
-    stops_whole τ H deeds fw (shorter (Skipped x) more size is lines texts) = absurd (skips_none (length deeds + 1) fw.fits.rest fw.event fw.next x (map line_in more ++ says.rest) lines is.is)
-    stops_whole τ H deeds fw (shorter (Answered x e answer given) more size is lines texts) =
+        (subst (λ (x : List ℕ). BeginsTold τ (ledger_after τ (Begin ∷ H) (done_in trace)) x fw.event says.told) (sym left)
+        (subst (λ (x : List ℕ). BeginsTold τ (ledger_after τ (Begin ∷ H) (done_in trace)) (rates_after rates (done_in trace)) fw.event x) (sym texts) fw.begins))))
+    stops_whole τ H trace fw (longer (d ∷ more) K l size so reads goes lines texts are behind left) =
+        inr (goes_past v (length says.pairs + 1) says.rest says.told says.falls τ K l new so (omega (arith, size, fw.fits.few)) d more (map traces.line_in more ++ fw.fits.rest) (report_of script_lines more ++ fw.fits.told)
+        reads.0 goes.0 lines (texts ∙ append_assoc (traces.text_for d) (report_of script_lines more) fw.fits.told) are)
+    stops_whole τ H trace fw (shorter (Skipped x) more size is lines texts) = absurd (skips_none (length trace + 1) fw.fits.rest fw.event fw.next x (map line_in more ++ says.rest) lines is.is)
+    stops_whole τ H trace fw (shorter (Answered x e answer given) more size is lines texts) =
         absurd (not_one answer (flat_map text_for more ++ says.told) (subst (λ (z : List ℕ). IsOneLine z) texts
-        (front_one fw.fits.told fw.begins.3.0 (subst (λ (z : List ℕ). IsOneLine z) fw.begins.3.1 (line fw.begins.0.reply fw.begins.2.whole)))))
+        (prefix_one fw.fits.told fw.begins.3.0 (subst (λ (z : List ℕ). IsOneLine z) fw.begins.3.1 (line fw.begins.0.reply fw.begins.2.whole)))))
 
-    first_made : (τ : Tariff) (H : Ledger) (m : Made τ (Falls τ) (Begin ∷ H) rates says.pairs) → FitsFirst τ (Begin ∷ H) script report rates m.deeds
+    first_made : (τ : Tariff) (H : Ledger) (m : Made τ (Falls τ) (Begin ∷ H) rates says.pairs) → FitsFirst τ (Begin ∷ H) script report rates m.trace
     first_made τ H m = record {
       each = m.each;
       go_on = m.go_on;
-      few = omega (arith, m.size, says.front.few);
+      few = omega (arith, m.size, says.prefix.few);
       rest = says.rest;
       told = says.told;
-      script_is = says.front.script_is ∙ ap (λ (x : List (List ℕ)). x ++ says.rest) (sym m.lines);
-      report_is = says.front.report_is ∙ ap (λ (x : List ℕ). x ++ says.told) (sym m.texts);
+      script_is = says.prefix.script_is ∙ ap (λ (x : List (List ℕ)). x ++ says.rest) (sym m.lines);
+      report_is = says.prefix.report_is ∙ ap (λ (x : List ℕ). x ++ says.told) (sym m.texts);
       are = m.are;
     }
 
     -- where it says so, they fit up to where the run was stopped
-    stopped_made : (τ : Tariff) (H : Ledger) (n : ℕ) → v ≡ Stopped n → (m : Made τ (Falls τ) (Begin ∷ H) rates says.pairs) → FitsStopped τ (Begin ∷ H) script report rates m.deeds
+    stopped_made : (τ : Tariff) (H : Ledger) (n : ℕ) → v ≡ Stopped n → (m : Made τ (Falls τ) (Begin ∷ H) rates says.pairs) → FitsStopped τ (Begin ∷ H) script report rates m.trace
     unfolding first_made
     stopped_made τ H n is m =
-        let K = ledger_after τ (Begin ∷ H) (done_in m.deeds) in
-        let l = rates_after rates (done_in m.deeds) in
+        let K = ledger_after τ (Begin ∷ H) (done_in m.trace) in
+        let l = rates_after rates (done_in m.trace) in
         let w = stopped_begins τ K l new (length says.pairs + 1) says.rest says.told v says.falls m.holds n is in
         record {
           fits = first_made τ H m;
@@ -306,11 +306,11 @@ module _ (one : (x y : Reply) → IsWholeReply x → IsWholeReply y → text_of 
           begins = w.2;
         }
 
-    pub fits_made : (τ : Tariff) (H : Ledger) (end : Ending) → v ≡ Lawful end → (m : Made τ (Falls τ) (Begin ∷ H) rates says.pairs) → FitsToEnd τ (Begin ∷ H) script report rates m.deeds
+    pub fits_made : (τ : Tariff) (H : Ledger) (end : Ending) → v ≡ Lawful end → (m : Made τ (Falls τ) (Begin ∷ H) rates says.pairs) → FitsToEnd τ (Begin ∷ H) script report rates m.trace
     unfolding first_made
     fits_made τ H end is m =
-        let K = ledger_after τ (Begin ∷ H) (done_in m.deeds) in
-        let l = rates_after rates (done_in m.deeds) in
+        let K = ledger_after τ (Begin ∷ H) (done_in m.trace) in
+        let l = rates_after rates (done_in m.trace) in
         let w = lawful_ends τ K l new (length says.pairs + 1) says.rest says.told v says.falls m.holds end is in
         record {
           fits = first_made τ H m;
@@ -320,23 +320,23 @@ module _ (one : (x y : Reply) → IsWholeReply x → IsWholeReply y → text_of 
         }
 
     fits_whole : (τ : Tariff) (H : Ledger) (end : Ending) → v ≡ Lawful end → TellsSo τ (Falls τ) (Begin ∷ H) rates says.pairs
-        → (deeds : List Deed) × FitsToEnd τ (Begin ∷ H) script report rates deeds
-    fits_whole τ H end is so = let m = made τ (Falls τ) (Begin ∷ H) rates says.pairs says.front.each so in (m.deeds, fits_made τ H end is m)
+        → (trace : List TraceStep) × FitsToEnd τ (Begin ∷ H) script report rates trace
+    fits_whole τ H end is so = let m = made τ (Falls τ) (Begin ∷ H) rates says.pairs says.prefix.each so in (m.trace, fits_made τ H end is m)
 
     -- with prints that are those of the pairs
     pub fits_printed : (τ : Tariff) (H : Ledger) (end : Ending) (prints : List ℕ) → v ≡ Lawful end → TellsSo τ (Falls τ) (Begin ∷ H) rates says.pairs
-        → ArePrinted (imprints_from 1 says.pairs) prints → (deeds : List Deed) × FitsPrinted τ (Begin ∷ H) script report rates prints deeds
+        → ArePrinted (imprints_from 1 says.pairs) prints → (trace : List TraceStep) × FitsPrinted τ (Begin ∷ H) script report rates prints trace
     fits_printed τ H end prints is so printed =
-        let m = made_printed τ (Falls τ) (Begin ∷ H) rates says.pairs 1 prints says.front.each so printed in
-        (m.made.deeds, record { fits = fits_made τ H end is m.made; run = m.run; prints_are = m.prints })
+        let m = made_printed τ (Falls τ) (Begin ∷ H) rates says.pairs 1 prints says.prefix.each so printed in
+        (m.made.trace, record { fits = fits_made τ H end is m.made; run = m.run; prints_are = m.prints })
 
     pub exact : IsExact v script report rates old new says
     exact = record {
-      longest = λ other τ H texts history seen deeds fits. no_longer τ H deeds fits.rest fits.told fits.few other (beside τ H deeds fits (says.so τ H texts history seen));
-      complete = λ τ H texts history seen deeds fw. whole τ H deeds fw (beside τ H deeds fw.fits (says.so τ H texts history seen));
+      longest = λ other τ H texts history seen trace fits. no_longer τ H trace fits.rest fits.told fits.few other (beside τ H trace fits (says.so τ H texts history seen));
+      complete = λ τ H texts history seen trace fw. whole τ H trace fw (beside τ H trace fw.fits (says.so τ H texts history seen));
       sound = λ end is τ H texts history seen. fits_whole τ H end is (says.so τ H texts history seen);
-      stops = λ τ H texts history seen deeds fw. stops_whole τ H deeds fw (beside τ H deeds fw.fits (says.so τ H texts history seen));
+      stops = λ τ H texts history seen trace fw. stops_whole τ H trace fw (beside τ H trace fw.fits (says.so τ H texts history seen));
       stopped = λ n is τ H texts history seen.
-          let m = made τ (Falls τ) (Begin ∷ H) rates says.pairs says.front.each (says.so τ H texts history seen) in
-          (m.deeds, stopped_made τ H n is m);
+          let m = made τ (Falls τ) (Begin ∷ H) rates says.pairs says.prefix.each (says.so τ H texts history seen) in
+          (m.trace, stopped_made τ H n is m);
     }

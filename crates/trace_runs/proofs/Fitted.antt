@@ -4,14 +4,14 @@ use Rattle.std.specs.List.{AllByRecursion}
 use Rattle.bench_base.specs.declared.events.Event.{Event}
 use Rattle.bench_base.specs.Ledger.{Ledger}
 use Rattle.ledger_moves.specs.Tariffs.{Tariff}
-use Rattle.line_runs.specs.Deeds.{Reads, report_of}
+use Rattle.line_runs.specs.Trace.{Reads, report_of}
 use Rattle.line_runs.specs.Ends.{EndsAt}
 use Rattle.line_runs.specs.Lines.{ended}
-use Rattle.line_extensions.specs.Deeds as deed
-use Rattle.line_extensions.specs.Deeds.{Deed, Did, GoesOn, done, done_in}
+use Rattle.line_extensions.specs.Trace as traces
+use Rattle.line_extensions.specs.Trace.{TraceStep, Did, GoesOn, done, done_in}
 use Rattle.line_extensions.specs.Events.{IsLineOf}
 use Rattle.line_extensions.specs.Scripts.{script_lines, script_grammar}
-use Rattle.script_replay.specs.Deeds.{ledger_by, ledger_after}
+use Rattle.script_replay.specs.Trace.{ledger_by, ledger_after}
 use Rattle.trace_bench.specs.Judging.{text_with}
 use Rattle.trace_bench.specs.Seeing.{Audit}
 use Rattle.trace_runs.specs.Verdicts.{Pair, Skipped, Answered, IsPair, line_in, text_for, status_of, IsEvent, EndsSo, FallsAt, TellsSo, MayEnd, IsSo, last_given}
@@ -21,23 +21,23 @@ use Rattle.trace_runs.specs.declared.verdict.Ending.TheVariants.{Done as Ended, 
 use Rattle.trace_runs.specs.declared.verdict.Verdict.{Verdict}
 use Rattle.trace_runs.specs.declared.verdict.Verdict.TheVariants.{Lawful, Stopped, Wrong, Forged, Unkept, More, Memory, Unread}
 
--- deeds of these pairs, behind which P holds
+-- steps of these pairs, behind which P holds
 pub record Made (τ : Tariff) (P : Ledger → List ℕ → Type 0) (H : Ledger) (left : List ℕ) (a : List Pair) : Type 0 where
-  pub deeds : List Deed
-  pub each : AllByRecursion (Reads script_lines) deeds
-  pub go_on : AllByRecursion GoesOn deeds
-  pub size : length deeds ≡ length a
-  pub lines : map deed.line_in deeds ≡ map line_in a
-  pub texts : report_of script_lines deeds ≡ flat_map text_for a
-  pub are : AreTold τ H left (done_in deeds)
-  pub holds : P (ledger_after τ H (done_in deeds)) (rates_after left (done_in deeds))
+  pub trace : List TraceStep
+  pub each : AllByRecursion (Reads script_lines) trace
+  pub go_on : AllByRecursion GoesOn trace
+  pub size : length trace ≡ length a
+  pub lines : map traces.line_in trace ≡ map line_in a
+  pub texts : report_of script_lines trace ≡ flat_map text_for a
+  pub are : AreTold τ H left (done_in trace)
+  pub holds : P (ledger_after τ H (done_in trace)) (rates_after left (done_in trace))
 
 pub made : (τ : Tariff) (P : Ledger → List ℕ → Type 0) (H : Ledger) (left : List ℕ) (a : List Pair) → AllByRecursion IsPair a → TellsSo τ P H left a → Made τ P H left a
-made τ P H left [] each tells = record { deeds = []; each = tt; go_on = tt; size = refl; lines = refl; texts = refl; are = tt; holds = tells }
+made τ P H left [] each tells = record { trace = []; each = tt; go_on = tt; size = refl; lines = refl; texts = refl; are = tt; holds = tells }
 made τ P H left (Skipped x ∷ a) each tells =
     let m = made τ P H left a each.1 tells in
     record {
-      deeds = deed.Skipped x ∷ m.deeds;
+      trace = traces.Skipped x ∷ m.trace;
       each = (record { one = each.0.one; short = each.0.short; is = each.0.is }, m.each);
       go_on = (tt, m.go_on);
       size = omega (arith, m.size);
@@ -50,12 +50,12 @@ made τ P H left (Answered x e answer given ∷ a) each tells =
     let w = tells in
     let m = made τ P (ledger_by τ H w.0) (drop (length w.0.text) left) a each.1 w.2 in
     record {
-      deeds = Did x w.0 ∷ m.deeds;
+      trace = Did x w.0 ∷ m.trace;
       each = (record { one = each.0.one; short = each.0.short; is = (subst (λ (f : Event). IsLineOf f x) (sym w.1.event) each.0.is.0, w.1.may.whole) }, m.each);
       go_on = (λ is. each.0.is.2 (sym w.1.event ∙ is), m.go_on);
       size = omega (arith, m.size);
       lines = ap (λ (l : List (List ℕ)). x ∷ l) m.lines;
-      texts = ap (λ (t : List ℕ). ended t ++ report_of script_lines m.deeds) w.1.text ∙ ap (λ (l : List ℕ). ended answer ++ l) m.texts;
+      texts = ap (λ (t : List ℕ). ended t ++ report_of script_lines m.trace) w.1.text ∙ ap (λ (l : List ℕ). ended answer ++ l) m.texts;
       are = (w.1.may, m.are);
       holds = m.holds;
     }

@@ -13,7 +13,7 @@ use Rattle.node_acts.specs.Plans.{Fails}
 use Rattle.ledger_moves.specs.Moves.{Moves, plan}
 use Rattle.node_turns.specs.Printing.{print_of}
 use Rattle.script_text.specs.Texts.{text_of}
-use Rattle.script_text.specs.Told.{IsWholeReply, told}
+use Rattle.script_text.specs.ReplyRanges.{IsWholeReply, told}
 use Rattle.trace_bench.specs.Judging.{IsTold, text_with}
 use Rattle.trace_bench.specs.Seeing.{Audit}
 use Rattle.trace_runs.specs.Imprints.{IsGiven, GivesSo, taken_whole, failed_in}

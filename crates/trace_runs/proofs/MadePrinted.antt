@@ -1,4 +1,4 @@
--- Deeds of pairs that print what the prints have.
+-- Steps of pairs that print what the prints have.
 use Rattle.std.proofs.Common.{◌≡◌, ℕ, ◌+◌, List, [], ◌∷◌, ◌++◌, length, drop, Option, Some, None, refl, sym, ◌∙◌, ap, subst, arith}
 use Rattle.std.specs.List.{AllByRecursion}
 use Rattle.bench_base.specs.declared.events.Event.{Event}
@@ -8,13 +8,13 @@ use Rattle.bench_base.specs.Rules.{todays_rules}
 use Rattle.ledger_moves.specs.Tariffs.{Tariff}
 use Rattle.ledger_moves.specs.Moves.{plan}
 use Rattle.node_turns.specs.Printing.{print_of}
-use Rattle.line_runs.specs.Deeds.{report_of}
+use Rattle.line_runs.specs.Trace.{report_of}
 use Rattle.line_runs.specs.Lines.{ended}
-use Rattle.line_extensions.specs.Deeds as deed
-use Rattle.line_extensions.specs.Deeds.{Done, Did, done_in}
+use Rattle.line_extensions.specs.Trace as traces
+use Rattle.line_extensions.specs.Trace.{StepRecord, Did, done_in}
 use Rattle.line_extensions.specs.Events.{IsLineOf}
 use Rattle.line_extensions.specs.Scripts.{script_lines}
-use Rattle.script_replay.specs.Deeds.{ledger_by, printed_of}
+use Rattle.script_replay.specs.Trace.{ledger_by, printed_of}
 use Rattle.script_replay.specs.Marks.{IsPrinted}
 use Rattle.trace_runs.specs.declared.imprint.Given.{Given}
 use Rattle.trace_runs.specs.Audits.{IsRun, MayTell}
@@ -40,24 +40,24 @@ gave reply mark g piece given took = record {
   none = λ a b. let wrong : Some g ≡ None = given.none a b in cc;
 }
 
--- deeds of these pairs, behind which P holds, that print these bytes
+-- steps of these pairs, behind which P holds, that print these bytes
 pub record MadePrinted (τ : Tariff) (P : Ledger → List ℕ → Type 0) (H : Ledger) (left : List ℕ) (a : List Pair) (bytes : List ℕ) : Type 0 where
   pub made : Made τ P H left a
-  pub run : IsRun τ H left (done_in made.deeds)
-  pub prints : bytes ≡ printed_of (done_in made.deeds)
+  pub run : IsRun τ H left (done_in made.trace)
+  pub prints : bytes ≡ printed_of (done_in made.trace)
 
--- one more deed before them, which prints this
-before : (τ : Tariff) (P : Ledger → List ℕ → Type 0) (H : Ledger) (left x : List ℕ) (e : Event) (answer : List ℕ) (given : Option Given) (a : List Pair) (piece rest : List ℕ) (d : Done)
+-- one more step before them, which prints this
+before : (τ : Tariff) (P : Ledger → List ℕ → Type 0) (H : Ledger) (left x : List ℕ) (e : Event) (answer : List ℕ) (given : Option Given) (a : List Pair) (piece rest : List ℕ) (d : StepRecord)
     → IsPair (Answered x e answer given) → IsAnswered τ H left e answer given d → IsPrinted d.reply (print_of (plan τ todays_rules H d.event d.text).after) piece
     → MadePrinted τ P (ledger_by τ H d) (drop (length d.text) left) a rest → MadePrinted τ P H left (Answered x e answer given ∷ a) (piece ++ rest)
 before τ P H left x e answer given a piece rest d is w printed m = record {
   made = record {
-    deeds = Did x (record d { printed = piece }) ∷ m.made.deeds;
+    trace = Did x (record d { printed = piece }) ∷ m.made.trace;
     each = (record { one = is.one; short = is.short; is = (subst (λ (f : Event). IsLineOf f x) (sym w.event) is.is.0, w.may.whole) }, m.made.each);
     go_on = (λ same. is.is.2 (sym w.event ∙ same), m.made.go_on);
     size = omega (arith, m.made.size);
     lines = ap (λ (l : List (List ℕ)). x ∷ l) m.made.lines;
-    texts = ap (λ (t : List ℕ). ended t ++ report_of script_lines m.made.deeds) w.text ∙ ap (λ (l : List ℕ). ended answer ++ l) m.made.texts;
+    texts = ap (λ (t : List ℕ). ended t ++ report_of script_lines m.made.trace) w.text ∙ ap (λ (l : List ℕ). ended answer ++ l) m.made.texts;
     are = (told, m.made.are);
     holds = m.made.holds;
   };
@@ -71,7 +71,7 @@ before τ P H left x e answer given a piece rest d is w printed m = record {
 pub made_printed : (τ : Tariff) (P : Ledger → List ℕ → Type 0) (H : Ledger) (left : List ℕ) (a : List Pair) (number : ℕ) (bytes : List ℕ) → AllByRecursion IsPair a → TellsSo τ P H left a
     → ArePrinted (imprints_from number a) bytes → MadePrinted τ P H left a bytes
 made_printed τ P H left [] number bytes each tells printed = record {
-  made = record { deeds = []; each = tt; go_on = tt; size = refl; lines = refl; texts = refl; are = tt; holds = tells };
+  made = record { trace = []; each = tt; go_on = tt; size = refl; lines = refl; texts = refl; are = tt; holds = tells };
   run = tt;
   prints = printed;
 }
@@ -79,7 +79,7 @@ made_printed τ P H left (Skipped x ∷ a) number bytes each tells printed =
     let m = made_printed τ P H left a (number + 1) bytes each.1 tells printed in
     record {
       made = record {
-        deeds = deed.Skipped x ∷ m.made.deeds;
+        trace = traces.Skipped x ∷ m.made.trace;
         each = (record { one = each.0.one; short = each.0.short; is = each.0.is }, m.made.each);
         go_on = (tt, m.made.go_on);
         size = omega (arith, m.made.size);

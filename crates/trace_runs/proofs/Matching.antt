@@ -4,8 +4,8 @@ use Rattle.std.proofs.lemmas.Bool.{eqb-true}
 use Rattle.std.proofs.lemmas.List.{take-append-drop, take_at, drop_all}
 use Rattle.text_streams.specs.Texts.{print_line}
 use Rattle.trace_runs.specs.declared.imprint.Imprint.{Imprint}
-use Rattle.trace_runs.specs.declared.imprint.Taken.{Taken}
-use Rattle.trace_runs.specs.declared.imprint.Taken.TheVariants.{Whole, Failed, Stopped}
+use Rattle.trace_runs.specs.declared.imprint.Printed.{Printed}
+use Rattle.trace_runs.specs.declared.imprint.Printed.TheVariants.{Whole, Failed, Stopped}
 use Rattle.trace_runs.specs.Prints.{Took, ArePrinted, IsWhole, FitsUpTo, BeginsOther, IsFit, DiffersAt}
 
 -- what is behind the same bytes is the same
@@ -13,12 +13,12 @@ after_same : (a x y : List ℕ) → a ++ x ≡ a ++ y → x ≡ y
 after_same [] x y is = is
 after_same (c ∷ a) x y is = after_same a x y (cc)
 
-took_whole : (t : Taken) (mark piece : List ℕ) → t ≡ Whole → Took t mark piece → piece ≡ print_line mark
+took_whole : (t : Printed) (mark piece : List ℕ) → t ≡ Whole → Took t mark piece → piece ≡ print_line mark
 took_whole Whole mark piece is took = took
 took_whole Failed mark piece is took = absurd (cc is)
 took_whole Stopped mark piece is took = absurd (cc is)
 
-took_line : (t : Taken) (mark : List ℕ) → t ≡ Whole → Took t mark (print_line mark)
+took_line : (t : Printed) (mark : List ℕ) → t ≡ Whole → Took t mark (print_line mark)
 took_line Whole mark is = refl
 took_line Failed mark is = absurd (cc is)
 took_line Stopped mark is = absurd (cc is)

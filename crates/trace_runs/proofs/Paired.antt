@@ -8,7 +8,7 @@ use Rattle.bench_base.specs.Ledger.{Ledger}
 use Rattle.ledger_moves.specs.Tariffs.{Tariff}
 use Rattle.ledger_moves.specs.Histories.{begins}
 use Rattle.line_runs.specs.Ends.{lines_of}
-use Rattle.script_replay.specs.Deeds.{ledger_by}
+use Rattle.script_replay.specs.Trace.{ledger_by}
 use Rattle.trace_bench.specs.Seeing.{Audit, Sees}
 use Rattle.trace_runs.specs.Verdicts.{Pair, Skipped, Answered, IsPair, line_in, text_for, EndsSo, TellsSo, MayEnd, IsSo, Says, Audited, imprints_from, last_given}
 use Rattle.trace_runs.specs.Imprints.{imprint_at}
@@ -83,7 +83,7 @@ module _ (script0 report0 rates0 : List ℕ) (count : ℕ) (script report rates 
     pairs = p.pairs;
     rest = lines_of script;
     told = report;
-    front = record { each = p.each; few = omega (arith, few, p.number); script_is = p.script_is; report_is = p.report_is };
+    prefix = record { each = p.each; few = omega (arith, few, p.number); script_is = p.script_is; report_is = p.report_is };
     falls = f.falls;
     so = λ τ H texts history seen.
         tells_then τ (StandsAt τ mid rates) (λ K left. IsSo τ K left new (length p.pairs + 1) (lines_of script) report v f.falls)

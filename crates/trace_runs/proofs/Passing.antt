@@ -30,7 +30,7 @@ begins rates old new before script report sees = record {
 
 -- so many lines were paired
 module _ (count : ℕ) (rates0 rates : List ℕ) (old mid new : Audit) (before half after : List Imprint) (s0 s1 s2 r0 r1 r2 : Option (List ℕ)) (p : IsProgress count rates0 rates old mid before half s0 s1 r0 r1) where
-  -- what was read before and this is one front of the text
+  -- what was read before and this is one prefix of the text
   joined : (a b x : List ℕ) (P : List ℕ → Type 0) → P (a ++ (b ++ x)) → P ((a ++ b) ++ x)
   joined a b x P = subst P (sym (append_assoc a b x))
 

@@ -23,7 +23,7 @@ use Rattle.trace_runs.specs.declared.verdict.Ending.TheVariants as ends
 use Rattle.trace_runs.specs.declared.verdict.Input.TheVariants as input
 use Rattle.trace_runs.specs.declared.verdict.Verdict.{Verdict}
 use Rattle.trace_runs.specs.declared.verdict.Verdict.TheVariants.{Lawful, Stopped, More, Unread}
-use Rattle.trace_runs.proofs.Comparing.{front_one}
+use Rattle.trace_runs.proofs.Comparing.{prefix_one}
 use Rattle.trace_runs.proofs.WasRead.{of_map, nothing, some, whole, then_read, FirstLine, ReadAs, long_line}
 use Rattle.trace_runs.proofs.Turning.{turned_before, stops, too_long, unread, ends_missing, ends_bad, skips, script_unread}
 
@@ -76,18 +76,18 @@ answer_before number e rates old mid new before after r0 r1 result sees a = reco
 }
 
 -- the verdict falls before the report is read
-pub unanswered : (number : ℕ) (e : Event) (front rates : List ℕ) (old new : Audit) (before after : List Imprint) (left : Option (List ℕ)) (v : Verdict)
-    → ((behind script line lines : List ℕ) → BeginsWith script line lines e → FellPut number script (front ++ behind) rates old new before after v) → IsAnswer number e front rates old new before after left left (Err v)
-unanswered number e front rates old new before after left v fell = record { report = nothing left; goes_on = tt; so = λ behind script line lines begins. fell behind script line lines begins }
+pub unanswered : (number : ℕ) (e : Event) (prefix rates : List ℕ) (old new : Audit) (before after : List Imprint) (left : Option (List ℕ)) (v : Verdict)
+    → ((behind script line lines : List ℕ) → BeginsWith script line lines e → FellPut number script (prefix ++ behind) rates old new before after v) → IsAnswer number e prefix rates old new before after left left (Err v)
+unanswered number e prefix rates old new before after left v fell = record { report = nothing left; goes_on = tt; so = λ behind script line lines begins. fell behind script line lines begins }
 
 module _ (number : ℕ) (inside : number ≤ 1000000) (e : Event) (rates : List ℕ) (old : Audit) (unforged : AtHistory old (λ H. Unforged e H)) (new : Audit) (before after : List Imprint) (r0 r1 : Option (List ℕ)) (buf : List ℕ) where
   -- the report ends within the line, or before it
-  cut_off : (v : Verdict) (front bytes : List ℕ) → Consumes r0 r1 bytes → IsAtEnd r1 → bytes ≡ front → IsOneLine front → StopsSo number e front rates old new before after v → IsAnswer number e [] rates old new before after r0 r1 (Err v)
-  cut_off v front bytes consumed end is one stop = record {
+  cut_off : (v : Verdict) (prefix bytes : List ℕ) → Consumes r0 r1 bytes → IsAtEnd r1 → bytes ≡ prefix → IsOneLine prefix → StopsSo number e prefix rates old new before after v → IsAnswer number e [] rates old new before after r0 r1 (Err v)
+  cut_off v prefix bytes consumed end is one stop = record {
     report = whole bytes consumed end;
     goes_on = tt;
     so = λ script line lines begins.
-        subst (λ (x : List ℕ). FellPut number script x rates old new before after v) (sym (append-nil bytes ∙ is)) (stops number inside script line lines e begins front rates old new v before after one unforged stop);
+        subst (λ (x : List ℕ). FellPut number script x rates old new before after v) (sym (append-nil bytes ∙ is)) (stops number inside script line lines e begins prefix rates old new v before after one unforged stop);
   }
 
   pub cut_line : (v : Verdict) (len : ℕ) (is_ended : Bool) → is_ended ≡ false → ReadAs r0 r1 buf (read.Line len is_ended) → StopsSo number e (take len buf) rates old new before after v → IsAnswer number e [] rates old new before after r0 r1 (Err v)
@@ -107,7 +107,7 @@ module _ (number : ℕ) (inside : number ≤ 1000000) (e : Event) (rates : List 
         goes_on = tt;
         so = λ told script line lines begins.
             too_long number inside script line lines e begins (r.0 ++ told) rates old new v buf (drop 600 r.0 ++ told) before after
-            (ap (λ (l : List ℕ). l ++ told) parts ∙ append_assoc buf (drop 600 r.0) told) (front_one buf (drop 600 r.0) (subst (λ (l : List ℕ). IsOneLine l) parts r.2.0)) never unforged stop;
+            (ap (λ (l : List ℕ). l ++ told) parts ∙ append_assoc buf (drop 600 r.0) told) (prefix_one buf (drop 600 r.0) (subst (λ (l : List ℕ). IsOneLine l) parts r.2.0)) never unforged stop;
       }
 
 pub unread_answer : (number : ℕ) (inside : number ≤ 1000000) (e : Event) (rates : List ℕ) (old new : Audit) (before : List Imprint) (r0 r1 : Option (List ℕ)) (buf : List ℕ) → ReadAs r0 r1 buf read.Fault

@@ -14,21 +14,21 @@ use Rattle.node_turns.specs.Printing.{print_of}
 use Rattle.ledger_moves.specs.Histories.{History, Unforged, moves}
 use Rattle.script_text.specs.Grammar.{Spells, IsSkipped}
 use Rattle.script_text.specs.Texts.{text_of}
-use Rattle.script_text.specs.Told.{IsWholeReply, told}
+use Rattle.script_text.specs.ReplyRanges.{IsWholeReply, told}
 use Rattle.script_words.specs.declared.word.LineFault.{LineFault}
 use Rattle.line_runs.specs.Ends.{lines_of, EndsAt}
 use Rattle.line_runs.specs.declared.status.Status.TheVariants as status
 use Rattle.line_runs.specs.Lines.{IsOneLine}
-use Rattle.line_extensions.specs.Deeds.{Done, done}
+use Rattle.line_extensions.specs.Trace.{StepRecord, done}
 use Rattle.line_extensions.specs.Events.{IsLineOf, IsBad}
 use Rattle.line_extensions.specs.Scripts.{script_grammar}
-use Rattle.script_replay.specs.Deeds.{ledger_by}
+use Rattle.script_replay.specs.Trace.{ledger_by}
 use Rattle.trace_bench.specs.declared.judging.Finding.TheVariants as found
 use Rattle.trace_bench.specs.Forging.{AtHistory}
 use Rattle.trace_bench.specs.Judging.{AtEach, IsJudged, text_with}
 use Rattle.trace_bench.specs.Seeing.{Audit, Sees, keeps}
 use Rattle.trace_runs.specs.Imprints.{IsGiven, IsDueMark, GivesSo, imprint_at}
-use Rattle.trace_runs.specs.Verdicts.{Skipped, Answered, status_of, IsEvent, HasLine, has_line, has_front, IsAnswered}
+use Rattle.trace_runs.specs.Verdicts.{Skipped, Answered, status_of, IsEvent, HasLine, has_line, has_prefix, IsAnswered}
 use Rattle.trace_runs.specs.Stops.{StopsSo}
 use Rattle.trace_runs.specs.Turns.{StandsAt, Turned, FellPut, TurnsSo, BeginsWith, IsOver}
 use Rattle.trace_runs.specs.declared.imprint.Given.{Given}
@@ -87,7 +87,7 @@ module _ (number : ℕ) (inside : number ≤ 1000000) (script line lines : List 
   )
   stops (Wrong n due) before after one unforged stop = (
     record {
-      falls = (stop.0, e, is_event, has_front report [] (sym (append-nil report)) one);
+      falls = (stop.0, e, is_event, has_prefix report [] (sym (append-nil report)) one);
       so = λ τ H texts history seen. let here = unforged τ H history seen in (here, stop.1 τ H texts history here seen);
     },
     stop.2 ∙ sym (append-nil before),
@@ -107,23 +107,23 @@ module _ (number : ℕ) (inside : number ≤ 1000000) (script line lines : List 
   pub unread : (before : List Imprint) → FellPut number script report rates old new before before (Unread input.Report number)
   unread before = (record { falls = refl; so = λ τ H texts history seen. tt }, sym (append-nil before))
 
-  -- its line goes on behind more than the front of any answer
-  pub too_long : (v : Verdict) (front behind : List ℕ) (before after : List Imprint) → report ≡ front ++ behind → IsOneLine front → ((n : ℕ) → v ≡ Stopped n → ⊥) → IsUnforgedThere → StopsSo number e front rates old new before after v
+  -- its line goes on behind more than the prefix of any answer
+  pub too_long : (v : Verdict) (prefix behind : List ℕ) (before after : List Imprint) → report ≡ prefix ++ behind → IsOneLine prefix → ((n : ℕ) → v ≡ Stopped n → ⊥) → IsUnforgedThere → StopsSo number e prefix rates old new before after v
       → FellPut number script report rates old new before after v
-  too_long (Stopped n) front behind before after is one never unforged stop = absurd (never n refl)
-  too_long (Wrong n due) front behind before after is one never unforged stop = (
+  too_long (Stopped n) prefix behind before after is one never unforged stop = absurd (never n refl)
+  too_long (Wrong n due) prefix behind before after is one never unforged stop = (
     record {
-      falls = (stop.0, e, is_event, has_front front behind is one);
+      falls = (stop.0, e, is_event, has_prefix prefix behind is one);
       so = λ τ H texts history seen. let here = unforged τ H history seen in (here, stop.1 τ H texts history here seen);
     },
     stop.2 ∙ sym (append-nil before),
   )
-  too_long Memory front behind before after is one never unforged stop = (record { falls = (e, is_event); so = λ τ H texts history seen. tt }, stop ∙ sym (append-nil before))
-  too_long (Lawful end) front behind before after is one never unforged stop = absurd stop
-  too_long (More n) front behind before after is one never unforged stop = absurd stop
-  too_long (Forged n) front behind before after is one never unforged stop = absurd stop
-  too_long (Unkept n) front behind before after is one never unforged stop = absurd stop
-  too_long (Unread text n) front behind before after is one never unforged stop = absurd stop
+  too_long Memory prefix behind before after is one never unforged stop = (record { falls = (e, is_event); so = λ τ H texts history seen. tt }, stop ∙ sym (append-nil before))
+  too_long (Lawful end) prefix behind before after is one never unforged stop = absurd stop
+  too_long (More n) prefix behind before after is one never unforged stop = absurd stop
+  too_long (Forged n) prefix behind before after is one never unforged stop = absurd stop
+  too_long (Unkept n) prefix behind before after is one never unforged stop = absurd stop
+  too_long (Unread text n) prefix behind before after is one never unforged stop = absurd stop
 
   module _ (answer behind : List ℕ) (has : HasLine report answer behind) where
     pub wrong : (due : Reply) (before : List Imprint) → IsUnforgedThere → AtEach old e (λ τ H. IsJudged τ H e rates answer new (Err (found.Wrong due)))
@@ -140,7 +140,7 @@ module _ (number : ℕ) (inside : number ≤ 1000000) (script line lines : List 
         (due : Option (List ℕ)) (is_due : IsDueMark old e due) (given : Option Given) (gives : GivesSo e due answer given) where
       -- what may be done for the event
       may : (τ : Tariff) (H : Ledger) → IsOfTexts τ → History τ editions H → Sees old H
-          → (d : Done) × IsAnswered τ H rates e answer given d × StandsAt τ new (drop used rates) (ledger_by τ H d) (drop (length d.text) rates)
+          → (d : StepRecord) × IsAnswered τ H rates e answer given d × StandsAt τ new (drop used rates) (ledger_by τ H d) (drop (length d.text) rates)
       may τ H texts history seen =
           let here = unforged τ H history seen in
           let w = judged τ H texts history here seen in

@@ -7,7 +7,7 @@ use Rattle.line_runs.specs.declared.lines.LineRead.{LineRead}
 use Rattle.line_runs.specs.declared.lines.LineRead.TheVariants as read
 use Rattle.line_runs.specs.Ends.{lines_of}
 use Rattle.line_runs.specs.Lines.{IsOneLine, ended, IsLineIn, ReadsLine}
-use Rattle.line_runs.proofs.EndLaws.{lines_of_ended, lines_of_last, long_front}
+use Rattle.line_runs.proofs.EndLaws.{lines_of_ended, lines_of_last, long_prefix}
 use Rattle.trace_runs.specs.Reads.{IsRead, OfBehind, OfTexts}
 
 -- == whatever stands behind ==
@@ -86,8 +86,8 @@ ReadAs left0 left1 buf r = (bytes : List ℕ) × Consumes left0 left1 bytes × R
 pub first_line : (left0 left1 : Option (List ℕ)) (buf : List ℕ) (len : ℕ) (is_ended : Bool) → ReadAs left0 left1 buf (read.Line len is_ended) → FirstLine left0 left1 (take len buf) (not is_ended)
 first_line left0 left1 buf len is_ended r = first_line_of left0 left1 (take len buf) r.0 is_ended r.1 r.2.1 (omega (arith, r.2.0, length-take len buf)) r.2.2
 
--- more than 600 bytes without a line end are the front of a line that is too long
+-- more than 600 bytes without a line end are the prefix of a line that is too long
 pub long_line : (bytes lines : List ℕ) → IsOneLine bytes → length bytes ≡ 601 → (line : List ℕ) × (more : List (List ℕ)) × (lines_of (bytes ++ lines) ≡ line ∷ more) × (601 ≤ length line)
 long_line bytes lines one long =
-    let w = long_front bytes lines one (omega (arith, long)) in
+    let w = long_prefix bytes lines one (omega (arith, long)) in
     (bytes ++ w.0, w.1, w.2, omega (arith, long, length-append bytes w.0))

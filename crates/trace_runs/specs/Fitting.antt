@@ -1,4 +1,4 @@
--- What deeds fit a script and its report, prints aside; and how the verdict of an audit stands to them.
+-- What steps fit a script and its report, prints aside; and how the verdict of an audit stands to them.
 use Rattle.std.specs.Prelude.{◌≡◌, ℕ, ◌+◌, ◌≤◌, List, [], ◌∷◌, ◌++◌, length, map, drop, ◌⊎◌}
 use Rattle.std.specs.List.{AllByRecursion}
 use Rattle.bench_base.specs.declared.events.Event.{Event}
@@ -10,13 +10,13 @@ use Rattle.bench_abstraction.specs.Tariff.{IsOfTexts}
 use Rattle.ledger_moves.specs.Tariffs.{Tariff}
 use Rattle.ledger_moves.specs.Histories.{History}
 use Rattle.script_text.specs.Texts.{text_of}
-use Rattle.line_runs.specs.Deeds.{Reads, report_of}
+use Rattle.line_runs.specs.Trace.{Reads, report_of}
 use Rattle.line_runs.specs.Ends.{lines_of, EndsAt}
-use Rattle.line_extensions.specs.Deeds.{Done, Deed, GoesOn, done_in, line_in, line_of}
+use Rattle.line_extensions.specs.Trace.{StepRecord, TraceStep, GoesOn, done_in, line_in, line_of}
 use Rattle.line_extensions.specs.Scripts.{script_lines, script_grammar}
-use Rattle.script_replay.specs.Deeds.{ledger_by, ledger_after, printed_of}
+use Rattle.script_replay.specs.Trace.{ledger_by, ledger_after, printed_of}
 use Rattle.trace_bench.specs.Seeing.{Audit, Sees}
-use Rattle.trace_bench.specs.Stopping.{IsFrontOf}
+use Rattle.trace_bench.specs.Stopping.{IsPrefixOf}
 use Rattle.trace_runs.specs.Audits.{MayTell, IsRun}
 use Rattle.trace_runs.specs.Prints.{ArePrinted}
 use Rattle.trace_runs.specs.Verdicts.{IsEvent, Says, Audited, status_of}
@@ -27,58 +27,58 @@ use Rattle.trace_runs.specs.declared.verdict.Verdict.{Verdict}
 use Rattle.trace_runs.specs.declared.verdict.Verdict.TheVariants.{Lawful, Stopped, Wrong, Forged, Unkept, More, Memory, Unread}
 
 -- each may be told in turn, at the ledger and with the rates that those before it leave
-abbrev pub AreTold : Tariff → Ledger → List ℕ → List Done → Type 0
+abbrev pub AreTold : Tariff → Ledger → List ℕ → List StepRecord → Type 0
 AreTold τ H left [] = Unit {0}
 AreTold τ H left (d ∷ rest) = MayTell τ H left d × AreTold τ (ledger_by τ H d) (drop (length d.text) left) rest
 
 -- what they leave of the rates
-abbrev pub rates_after : List ℕ → List Done → List ℕ
+abbrev pub rates_after : List ℕ → List StepRecord → List ℕ
 rates_after left [] = left
 rates_after left (d ∷ rest) = rates_after (drop (length d.text) left) rest
 
 -- At this ledger, with these rates left, what is left of the report is the line of a reply that `end` may get; or it is nothing, where the script
 -- ends otherwise.
 abbrev pub EndsTold : Tariff → Ledger → List ℕ → Ending → List ℕ → Type 0
-EndsTold τ K left Ended told = (d : Done) × (d.event ≡ ev.End) × MayTell τ K left d × (told ≡ line_of d.reply)
+EndsTold τ K left Ended told = (d : StepRecord) × (d.event ≡ ev.End) × MayTell τ K left d × (told ≡ line_of d.reply)
 EndsTold τ K left (Script line) told = told ≡ []
 EndsTold τ K left TooLong told = told ≡ []
 
--- At this ledger, with these rates left, what is left of the report is the front of the line of a reply that this event may get: none, some or all of it.
+-- At this ledger, with these rates left, what is left of the report is the prefix of the line of a reply that this event may get: none, some or all of it.
 abbrev pub BeginsTold : Tariff → Ledger → List ℕ → Event → List ℕ → Type 0
-BeginsTold τ K left e told = (d : Done) × (d.event ≡ e) × MayTell τ K left d × IsFrontOf told (text_of d.reply)
+BeginsTold τ K left e told = (d : StepRecord) × (d.event ≡ e) × MayTell τ K left d × IsPrefixOf told (text_of d.reply)
 
 -- Over the ledger at which a run begins.
 module _ (τ : Tariff) (H : Ledger) (script report rates : List ℕ) where
-  -- These deeds fit: their lines are the first of the script, their replies' lines the first of the report, and each may be told in turn.
-  pub record FitsFirst (deeds : List Deed) : Type 0 where
-    pub each : AllByRecursion (Reads script_lines) deeds
-    pub go_on : AllByRecursion GoesOn deeds
-    pub few : length deeds ≤ 1000000
+  -- These steps fit: their lines are the first of the script, their replies' lines the first of the report, and each may be told in turn.
+  pub record FitsFirst (trace : List TraceStep) : Type 0 where
+    pub each : AllByRecursion (Reads script_lines) trace
+    pub go_on : AllByRecursion GoesOn trace
+    pub few : length trace ≤ 1000000
     pub rest : List (List ℕ)
     pub told : List ℕ
-    pub script_is : lines_of script ≡ map line_in deeds ++ rest
-    pub report_is : report ≡ report_of script_lines deeds ++ told
-    pub are : AreTold τ H rates (done_in deeds)
+    pub script_is : lines_of script ≡ map line_in trace ++ rest
+    pub report_is : report ≡ report_of script_lines trace ++ told
+    pub are : AreTold τ H rates (done_in trace)
 
   -- They fit to the end: the script ends behind them, and the report with it.
-  pub record FitsToEnd (deeds : List Deed) : Type 0 where
-    pub fits : FitsFirst deeds
+  pub record FitsToEnd (trace : List TraceStep) : Type 0 where
+    pub fits : FitsFirst trace
     pub end : Ending
-    pub ends : EndsAt script_grammar (status_of end) (length deeds + 1) fits.rest
-    pub ends_told : EndsTold τ (ledger_after τ H (done_in deeds)) (rates_after rates (done_in deeds)) end fits.told
+    pub ends : EndsAt script_grammar (status_of end) (length trace + 1) fits.rest
+    pub ends_told : EndsTold τ (ledger_after τ H (done_in trace)) (rates_after rates (done_in trace)) end fits.told
 
   -- They fit, and the report ends before the line end of the reply to the next event: the run may have been stopped there.
-  pub record FitsStopped (deeds : List Deed) : Type 0 where
-    pub fits : FitsFirst deeds
+  pub record FitsStopped (trace : List TraceStep) : Type 0 where
+    pub fits : FitsFirst trace
     pub event : Event
-    pub next : IsEvent (length deeds + 1) fits.rest event
-    pub begins : BeginsTold τ (ledger_after τ H (done_in deeds)) (rates_after rates (done_in deeds)) event fits.told
+    pub next : IsEvent (length trace + 1) fits.rest event
+    pub begins : BeginsTold τ (ledger_after τ H (done_in trace)) (rates_after rates (done_in trace)) event fits.told
 
   -- They fit to the end, and print these bytes.
-  pub record FitsPrinted (prints : List ℕ) (deeds : List Deed) : Type 0 where
-    pub fits : FitsToEnd deeds
-    pub run : IsRun τ H rates (done_in deeds)
-    pub prints_are : prints ≡ printed_of (done_in deeds)
+  pub record FitsPrinted (prints : List ℕ) (trace : List TraceStep) : Type 0 where
+    pub fits : FitsToEnd trace
+    pub run : IsRun τ H rates (done_in trace)
+    pub prints_are : prints ≡ printed_of (done_in trace)
 
 -- no more was judged, since there was no memory, what is to be read could not be, or an event brings bytes and nothing is kept by which forged ones are told
 abbrev pub IsCutShort : Verdict → Type 0
@@ -103,20 +103,20 @@ IsStoppedAt v number = (v ≡ Stopped number) ⊎ IsCutShort v
 abbrev pub AtSeen : Audit → (Tariff → Ledger → Type 0) → Type 0
 AtSeen old P = (τ : Tariff) (H : Ledger) → IsOfTexts τ → History τ editions H → Sees old H → P τ (Begin ∷ H)
 
--- AN AUDIT IS EXACT: no deeds that fit are more than it paired, unless it was cut short; so where it says that a line is wrong, or that its event brings
+-- AN AUDIT IS EXACT: no steps that fit are more than it paired, unless it was cut short; so where it says that a line is wrong, or that its event brings
 -- something forged, none fit with that line. Where any fit to the end, it says that the run is lawful; and where it says so, some do. Where any fit up to a place at which
 -- the run may have been stopped, it says that; and where it says so, some do.
 pub record IsExact (v : Verdict) (script report rates : List ℕ) (old new : Audit) (says : Says v script report rates old new) : Type 0 where
-  pub longest : (IsCutShort v → ⊥) → AtSeen old (λ τ H. (deeds : List Deed) → FitsFirst τ H script report rates deeds → length deeds ≤ length says.pairs)
-  pub complete : AtSeen old (λ τ H. (deeds : List Deed) → FitsToEnd τ H script report rates deeds → IsLawful v)
+  pub longest : (IsCutShort v → ⊥) → AtSeen old (λ τ H. (trace : List TraceStep) → FitsFirst τ H script report rates trace → length trace ≤ length says.pairs)
+  pub complete : AtSeen old (λ τ H. (trace : List TraceStep) → FitsToEnd τ H script report rates trace → IsLawful v)
   pub sound : (end : Ending) → v ≡ Lawful end
-      → AtSeen old (λ τ H. (deeds : List Deed) × FitsToEnd τ H script report rates deeds)
-  pub stops : AtSeen old (λ τ H. (deeds : List Deed) → FitsStopped τ H script report rates deeds → IsStoppedAt v (length deeds + 1))
+      → AtSeen old (λ τ H. (trace : List TraceStep) × FitsToEnd τ H script report rates trace)
+  pub stops : AtSeen old (λ τ H. (trace : List TraceStep) → FitsStopped τ H script report rates trace → IsStoppedAt v (length trace + 1))
   pub stopped : (n : ℕ) → v ≡ Stopped n
-      → AtSeen old (λ τ H. (deeds : List Deed) × FitsStopped τ H script report rates deeds)
+      → AtSeen old (λ τ H. (trace : List TraceStep) × FitsStopped τ H script report rates trace)
 
--- Where an audit of a run says that it is lawful, and these are the prints of what was given, some deeds fit that print them.
+-- Where an audit of a run says that it is lawful, and these are the prints of what was given, some steps fit that print them.
 abbrev pub PrintsFit : Verdict → List ℕ → List ℕ → List ℕ → Audit → Audit → List Imprint → Type 0
 PrintsFit v script report rates old new given =
     (a : Audited v script report rates old new [] given) (end : Ending) (prints : List ℕ) → v ≡ Lawful end → ArePrinted given prints
-    → AtSeen old (λ τ H. (deeds : List Deed) × FitsPrinted τ H script report rates prints deeds)
+    → AtSeen old (λ τ H. (trace : List TraceStep) × FitsPrinted τ H script report rates prints trace)

@@ -12,11 +12,11 @@ use Rattle.ledger_moves.specs.Moves.{plan}
 use Rattle.node_turns.specs.Printing.{print_of}
 use Rattle.script_text.specs.Texts.{text_of}
 use Rattle.trace_bench.specs.Seeing.{Audit, Sees}
-use Rattle.trace_bench.specs.Stopping.{IsFrontOf}
+use Rattle.trace_bench.specs.Stopping.{IsPrefixOf}
 use Rattle.trace_runs.specs.declared.imprint.Given.{Given}
 use Rattle.trace_runs.specs.declared.imprint.Imprint.{Imprint}
-use Rattle.trace_runs.specs.declared.imprint.Taken.{Taken}
-use Rattle.trace_runs.specs.declared.imprint.Taken.TheVariants.{Whole, Failed, Stopped}
+use Rattle.trace_runs.specs.declared.imprint.Printed.{Printed}
+use Rattle.trace_runs.specs.declared.imprint.Printed.TheVariants.{Whole, Failed, Stopped}
 
 -- a mark whose whole line was taken, or in whose line the printer failed
 abbrev pub taken_whole : List ℕ → Given
@@ -32,21 +32,21 @@ pub record IsGiven (reply : Reply) (mark : Option (List ℕ)) (given : Option Gi
   pub cut : (job : ℕ) → reply ≡ r.PrinterFault job → (x : List ℕ) × (mark ≡ Some x) × (given ≡ Some (failed_in x))
   pub none : ((job : ℕ) → reply ≢ r.Printed job) → ((job : ℕ) → reply ≢ r.PrinterFault job) → given ≡ None
 
--- What the printer took in a `print` of this job, where the report ends with this front of its answer: the whole line of the mark, if it begins `printed` alone; not all of it,
+-- What the printer took in a `print` of this job, where the report ends with this prefix of its answer: the whole line of the mark, if it begins `printed` alone; not all of it,
 -- if it begins `printer fault` alone; and none, some or all of it, if it begins both or none.
-pub data IsTaken (j : ℕ) (front : List ℕ) : Taken → Type 0 where
-  whole : IsFrontOf front (text_of (r.Printed j)) → (IsFrontOf front (text_of (r.PrinterFault j)) → ⊥) → IsTaken j front Whole
-  failed : (IsFrontOf front (text_of (r.Printed j)) → ⊥) → IsFrontOf front (text_of (r.PrinterFault j)) → IsTaken j front Failed
-  stopped : IsFrontOf front (text_of (r.Printed j)) ↔ IsFrontOf front (text_of (r.PrinterFault j)) → IsTaken j front Stopped
+pub data IsTaken (j : ℕ) (prefix : List ℕ) : Printed → Type 0 where
+  whole : IsPrefixOf prefix (text_of (r.Printed j)) → (IsPrefixOf prefix (text_of (r.PrinterFault j)) → ⊥) → IsTaken j prefix Whole
+  failed : (IsPrefixOf prefix (text_of (r.Printed j)) → ⊥) → IsPrefixOf prefix (text_of (r.PrinterFault j)) → IsTaken j prefix Failed
+  stopped : IsPrefixOf prefix (text_of (r.Printed j)) ↔ IsPrefixOf prefix (text_of (r.PrinterFault j)) → IsTaken j prefix Stopped
 
 -- the printer was given this mark there, of which it took so much; or nothing, where no mark is due
 abbrev pub IsGivenAt : ℕ → List ℕ → Option (List ℕ) → Option Given → Type 0
-IsGivenAt j front None given = given ≡ None
-IsGivenAt j front (Some mark) given = (taken : Taken) × IsTaken j front taken × (given ≡ Some (record { mark = mark; taken = taken }))
+IsGivenAt j prefix None given = given ≡ None
+IsGivenAt j prefix (Some mark) given = (taken : Printed) × IsTaken j prefix taken × (given ≡ Some (record { mark = mark; taken = taken }))
 
--- What the printer was given where the report ends with this front of the event's line: in a `print` the mark that its plan prints, if it prints one; and nothing in any other event.
-pub record IsLeftOpen (τ : Tariff) (H : Ledger) (e : Event) (front : List ℕ) (given : Option Given) : Type 0 where
-  pub print : (j : ℕ) → e ≡ ev.Print j → IsGivenAt j front (print_of (plan τ todays_rules H (ev.Print j) []).after) given
+-- What the printer was given where the report ends with this prefix of the event's line: in a `print` the mark that its plan prints, if it prints one; and nothing in any other event.
+pub record IsLeftOpen (τ : Tariff) (H : Ledger) (e : Event) (prefix : List ℕ) (given : Option Given) : Type 0 where
+  pub print : (j : ℕ) → e ≡ ev.Print j → IsGivenAt j prefix (print_of (plan τ todays_rules H (ev.Print j) []).after) given
   pub other : ((j : ℕ) → e ≢ ev.Print j) → given ≡ None
 
 -- what was given for the line of this number
@@ -66,7 +66,7 @@ pub record GivesSo (e : Event) (due : Option (List ℕ)) (line : List ℕ) (give
   pub cut : (j : ℕ) → e ≡ ev.Print j → text_of (r.PrinterFault j) ≡ line → text_of (r.Printed j) ≢ line → given ≡ option_map failed_in due
   pub none : ((j : ℕ) → e ≡ ev.Print j → (text_of (r.Printed j) ≢ line) × (text_of (r.PrinterFault j) ≢ line)) → given ≡ None
 
--- a `print` whose plan prints this mark gave this, where the report ends with this front of its line; any other event gave nothing
-pub record LeavesOpen (e : Event) (due : Option (List ℕ)) (front : List ℕ) (given : Option Given) : Type 0 where
-  pub print : (j : ℕ) → e ≡ ev.Print j → IsGivenAt j front due given
+-- a `print` whose plan prints this mark gave this, where the report ends with this prefix of its line; any other event gave nothing
+pub record LeavesOpen (e : Event) (due : Option (List ℕ)) (prefix : List ℕ) (given : Option Given) : Type 0 where
+  pub print : (j : ℕ) → e ≡ ev.Print j → IsGivenAt j prefix due given
   pub other : ((j : ℕ) → e ≢ ev.Print j) → given ≡ None

@@ -2,18 +2,18 @@
 use Rattle.std.specs.Prelude.{◌≡◌, ◌≢◌, ℕ, zero, suc, List, [], ◌∷◌, ◌++◌, drop, length}
 use Rattle.text_streams.specs.Texts.{print_line}
 use Rattle.line_runs.specs.Lines.{IsCutOff}
-use Rattle.trace_bench.specs.Stopping.{IsFrontOf}
+use Rattle.trace_bench.specs.Stopping.{IsPrefixOf}
 use Rattle.trace_runs.specs.declared.imprint.Imprint.{Imprint}
-use Rattle.trace_runs.specs.declared.imprint.Taken.{Taken}
-use Rattle.trace_runs.specs.declared.imprint.Taken.TheVariants.{Whole, Failed, Stopped}
+use Rattle.trace_runs.specs.declared.imprint.Printed.{Printed}
+use Rattle.trace_runs.specs.declared.imprint.Printed.TheVariants.{Whole, Failed, Stopped}
 use Rattle.trace_runs.specs.declared.prints.Match.{Match}
 use Rattle.trace_runs.specs.declared.prints.Match.TheVariants.{Fit, Differ, Open}
 
--- The printer took the whole line of a mark; it failed in it, and took a front that isn't all of it; or the run was stopped there, and it took none, some or all of it.
-abbrev pub Took : Taken → List ℕ → List ℕ → Type 0
+-- The printer took the whole line of a mark; it failed in it, and took a prefix that isn't all of it; or the run was stopped there, and it took none, some or all of it.
+abbrev pub Took : Printed → List ℕ → List ℕ → Type 0
 Took Whole mark piece = piece ≡ print_line mark
 Took Failed mark piece = IsCutOff piece (print_line mark)
-Took Stopped mark piece = IsFrontOf piece (print_line mark)
+Took Stopped mark piece = IsPrefixOf piece (print_line mark)
 
 -- the bytes are what it took of each in turn
 abbrev pub ArePrinted : List Imprint → List ℕ → Type 0

@@ -80,12 +80,12 @@ IsOver end number behind v = ((behind ≡ []) × (v ≡ Lawful end)) ⊎ ((0 < l
 
 -- == by what was read ==
 
--- The event of the line of this number was answered, or the verdict falls there: this front of the report was read before, and more of it then.
-pub record IsAnswer (number : ℕ) (e : Event) (front rates : List ℕ) (old new : Audit) (before after : List Imprint) (report0 report1 : Option (List ℕ)) (result : Result ℕ Verdict) : Type 0 where
+-- The event of the line of this number was answered, or the verdict falls there: this prefix of the report was read before, and more of it then.
+pub record IsAnswer (number : ℕ) (e : Event) (prefix rates : List ℕ) (old new : Audit) (before after : List Imprint) (report0 report1 : Option (List ℕ)) (result : Result ℕ Verdict) : Type 0 where
   pub report : IsRead report0 report1
   pub goes_on : IfOk result (λ used. report.is_all ≡ false)
   pub so : OfTexts report (λ behind told. (script line lines : List ℕ) → BeginsWith script line lines e
-      → TurnsSo number script lines (front ++ behind) told rates old new before after result)
+      → TurnsSo number script lines (prefix ++ behind) told rates old new before after result)
 
 -- whether the ends of the script and of the report were seen, where a run goes on
 abbrev pub SeesEnds : Result Step Verdict → (script_all report_all : Bool) → Type 0

@@ -20,10 +20,10 @@ use Rattle.line_runs.specs.Ends.{lines_of, EndsAt}
 use Rattle.line_runs.specs.Lines.{IsOneLine, ended}
 use Rattle.line_runs.specs.declared.status.Status.{Status}
 use Rattle.line_runs.specs.declared.status.Status.TheVariants as status
-use Rattle.line_extensions.specs.Deeds.{Done}
+use Rattle.line_extensions.specs.Trace.{StepRecord}
 use Rattle.line_extensions.specs.Events.{IsLineOf}
 use Rattle.line_extensions.specs.Scripts.{script_grammar}
-use Rattle.script_replay.specs.Deeds.{ledger_by}
+use Rattle.script_replay.specs.Trace.{ledger_by}
 use Rattle.trace_bench.specs.Judging.{IsUntold}
 use Rattle.trace_bench.specs.Stopping.{IsBegun, IsUnbegun}
 use Rattle.trace_bench.specs.Seeing.{Audit, Sees, keeps}
@@ -63,7 +63,7 @@ pub record IsPair (p : Pair) : Type 0 where
   pub is : IsOf p
 
 -- these are the first lines of the script, and theirs are the first of the report; these lines of the script and these bytes of the report are left
-pub record IsFront (script report : List ℕ) (pairs : List Pair) (rest : List (List ℕ)) (told : List ℕ) : Type 0 where
+pub record IsPrefix (script report : List ℕ) (pairs : List Pair) (rest : List (List ℕ)) (told : List ℕ) : Type 0 where
   pub each : AllByRecursion IsPair pairs
   pub few : length pairs ≤ 1000000
   pub script_is : lines_of script ≡ map line_in pairs ++ rest
@@ -94,7 +94,7 @@ pub record HasLine (told answer behind : List ℕ) : Type 0 where
 -- the report has a line next; or these bytes of one, which may be cut off there, or go on
 pub data HasSome (told : List ℕ) : Type 0 where
   has_line : (answer behind : List ℕ) → HasLine told answer behind → HasSome told
-  has_front : (front behind : List ℕ) → told ≡ front ++ behind → IsOneLine front → HasSome told
+  has_prefix : (prefix behind : List ℕ) → told ≡ prefix ++ behind → IsOneLine prefix → HasSome told
 
 -- what the report has for the end of the script, and behind it: a line for `end`, and nothing else for any other end
 abbrev pub HasEnd : Ending → List ℕ → List ℕ → Type 0
@@ -135,7 +135,7 @@ last_given number rest told (Unread input n) at = None
 -- == what may be so ==
 
 -- what may be done there for the event, whose reply has this line, and with which the printer was given this
-pub record IsAnswered (τ : Tariff) (H : Ledger) (left : List ℕ) (e : Event) (answer : List ℕ) (given : Option Given) (d : Done) : Type 0 where
+pub record IsAnswered (τ : Tariff) (H : Ledger) (left : List ℕ) (e : Event) (answer : List ℕ) (given : Option Given) (d : StepRecord) : Type 0 where
   pub event : d.event ≡ e
   pub text : text_of d.reply ≡ answer
   pub may : MayTell τ H left d
@@ -147,22 +147,22 @@ abbrev pub TellsSo : Tariff → (Ledger → List ℕ → Type 0) → Ledger → 
 TellsSo τ P H left [] = P H left
 TellsSo τ P H left (Skipped line ∷ pairs) = TellsSo τ P H left pairs
 TellsSo τ P H left (Answered line e answer given ∷ pairs) =
-    (d : Done) × IsAnswered τ H left e answer given d × TellsSo τ P (ledger_by τ H d) (drop (length d.text) left) pairs
+    (d : StepRecord) × IsAnswered τ H left e answer given d × TellsSo τ P (ledger_by τ H d) (drop (length d.text) left) pairs
 
 -- At this ledger, with these rates left; the auditor is left so.
 module _ (τ : Tariff) (H : Ledger) (left : List ℕ) (now : Audit) where
   -- `end` may get this line, and the auditor sees the ledger behind it; at any other end it sees this one
   abbrev pub MayEnd : (end : Ending) (told behind : List ℕ) → HasEnd end told behind → Type 0
-  MayEnd Ended told behind has = (d : Done) × IsAnswered τ H left ev.End has.0 None d × Sees now (ledger_by τ H d)
+  MayEnd Ended told behind has = (d : StepRecord) × IsAnswered τ H left ev.End has.0 None d × Sees now (ledger_by τ H d)
   MayEnd (Script line) told behind has = Sees now H
   MayEnd TooLong told behind has = Sees now H
 
   -- the event may get no reply of the line that the report has, or none whose line begins with these bytes of it; this was the answer
   abbrev pub IsWrong : (e : Event) (due : Reply) (told : List ℕ) → HasSome told → Type 0
   IsWrong e due told (has_line answer behind line) = IsUntold τ H e left answer now due
-  IsWrong e due told (has_front front behind is one) = IsUnbegun τ H e left front now due
+  IsWrong e due told (has_prefix prefix behind is one) = IsUnbegun τ H e left prefix now due
 
-  -- What the verdict says where it falls: the end may be so; the next event brings nothing forged, and what the report ends with may be the front of the line of a
+  -- What the verdict says where it falls: the end may be so; the next event brings nothing forged, and what the report ends with may be the prefix of the line of a
   -- reply, and the auditor sees a ledger that the event may have left, as `Leaves` says; it brings nothing forged, and may not get what the report
   -- has; it brings something forged; or the auditor does not keep what was sent and released.
   abbrev pub IsSo : (number : ℕ) (rest : List (List ℕ)) (told : List ℕ) (v : Verdict) → FallsAt number rest told v → Type 0
@@ -181,7 +181,7 @@ pub record Says (v : Verdict) (script report rates : List ℕ) (old new : Audit)
   pub pairs : List Pair
   pub rest : List (List ℕ)
   pub told : List ℕ
-  pub front : IsFront script report pairs rest told
+  pub prefix : IsPrefix script report pairs rest told
   pub falls : FallsAt (length pairs + 1) rest told v
   pub so : (τ : Tariff) (H : Ledger) → IsOfTexts τ → History τ editions H → Sees old H
       → TellsSo τ (λ K left. IsSo τ K left new (length pairs + 1) rest told v falls) (Begin ∷ H) rates pairs

@@ -11,7 +11,7 @@ use trace_nodes::is_told;
 
 /// What the printer took of the line of a mark.
 #[derive(Clone, Copy)]
-pub enum Taken {
+pub enum Printed {
     /// The whole line.
     Whole,
     /// The first bytes of it, or none, but not all: the printer failed in it.
@@ -24,7 +24,7 @@ pub enum Taken {
 #[derive(Clone, Copy)]
 pub struct Given {
     pub mark: [u8; 64],
-    pub taken: Taken,
+    pub taken: Printed,
 }
 
 /// What the printer was given for a line of a script, which is counted from 1.
@@ -58,13 +58,13 @@ pub(crate) fn given_in(event: &Event, due: Option<[u8; 64]>, line: &[u8]) -> Opt
     if is_told(&Reply::Printed(*job), line) {
         return Some(Given {
             mark,
-            taken: Taken::Whole,
+            taken: Printed::Whole,
         });
     }
     if is_told(&Reply::PrinterFault(*job), line) {
         return Some(Given {
             mark,
-            taken: Taken::Failed,
+            taken: Printed::Failed,
         });
     }
     None
@@ -72,24 +72,24 @@ pub(crate) fn given_in(event: &Event, due: Option<[u8; 64]>, line: &[u8]) -> Opt
 
 // What the printer took in a `print` of this job, of whose answer this stands there: the whole line of the mark, or not all of it, as the answer begins to tell; where that
 // is not told, none, some or all of it.
-fn taken_by(job: u32, front: &[u8]) -> Taken
-    ensures { IsTaken job front.now result }
+fn taken_by(job: u32, prefix: &[u8]) -> Printed
+    ensures { IsTaken job prefix.now result }
 {
-    let is_whole = begins(&Reply::Printed(job), front);
-    let is_cut = begins(&Reply::PrinterFault(job), front);
+    let is_whole = begins(&Reply::Printed(job), prefix);
+    let is_cut = begins(&Reply::PrinterFault(job), prefix);
     if is_whole == is_cut {
-        return Taken::Stopped;
+        return Printed::Stopped;
     }
     if is_whole {
-        Taken::Whole
+        Printed::Whole
     } else {
-        Taken::Failed
+        Printed::Failed
     }
 }
 
-// What the printer was given in an event that prints this mark where nothing fails, and of whose line this front stands there, if anything.
-pub(crate) fn open_in(event: &Event, due: Option<[u8; 64]>, front: &[u8]) -> Option<Given>
-    ensures { LeavesOpen event.now due front.now result }
+// What the printer was given in an event that prints this mark where nothing fails, and of whose line this prefix stands there, if anything.
+pub(crate) fn open_in(event: &Event, due: Option<[u8; 64]>, prefix: &[u8]) -> Option<Given>
+    ensures { LeavesOpen event.now due prefix.now result }
 {
     let Event::Print(job) = event else {
         return None;
@@ -99,7 +99,7 @@ pub(crate) fn open_in(event: &Event, due: Option<[u8; 64]>, front: &[u8]) -> Opt
     };
     Some(Given {
         mark,
-        taken: taken_by(*job, front),
+        taken: taken_by(*job, prefix),
     })
 }
 

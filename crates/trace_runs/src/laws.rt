@@ -6,8 +6,8 @@ ghost use Rattle.bench_base.specs.Rules.{todays_rules, editions};
 ghost use Rattle.ledger_terms.specs.Lawful.{Lawful};
 ghost use Rattle.ledger_moves.specs.Tariffs.{Tariff};
 ghost use Rattle.ledger_moves.specs.Histories.{History};
-ghost use Rattle.line_extensions.specs.Deeds.{Done};
-ghost use Rattle.script_replay.specs.Deeds.{ledger_after};
+ghost use Rattle.line_extensions.specs.Trace.{StepRecord};
+ghost use Rattle.script_replay.specs.Trace.{ledger_after};
 ghost use Rattle.trace_bench.specs.Seeing.{Audit};
 ghost use Rattle.trace_runs.specs.Audits.{IsRun, AreAlike, Fits, ledger_left};
 ghost use Rattle.trace_runs.specs.Fitting.{AreTold, IsExact, PrintsFit};
@@ -18,12 +18,12 @@ ghost use Rattle.trace_runs.specs.declared.verdict.Verdict.{Verdict};
 use ledger_laws::laws::histories;
 use script_text::laws::{one_line, one_reply};
 
-/// Where a script and its report fit together over a history, they make a lawful ledger, which is a history again; and so do deeds that may be told in turn.
+/// Where a script and its report fit together over a history, they make a lawful ledger, which is a history again; and so do steps that may be told in turn.
 pub fn fits_are_lawful()
-    ensures history { (τ : Tariff) (H : Ledger) (left : List ℕ) (deeds : List Done) → History τ editions H → IsRun τ H left deeds
-        → History τ editions (ledger_after τ H deeds) }
-    ensures told { (τ : Tariff) (H : Ledger) (left : List ℕ) (deeds : List Done) → History τ editions H → AreTold τ H left deeds
-        → Lawful todays_rules (ledger_after τ H deeds) }
+    ensures history { (τ : Tariff) (H : Ledger) (left : List ℕ) (trace : List StepRecord) → History τ editions H → IsRun τ H left trace
+        → History τ editions (ledger_after τ H trace) }
+    ensures told { (τ : Tariff) (H : Ledger) (left : List ℕ) (trace : List StepRecord) → History τ editions H → AreTold τ H left trace
+        → Lawful todays_rules (ledger_after τ H trace) }
     ensures lawful { (τ : Tariff) (H : Ledger) (script report rates prints : List ℕ) → History τ editions H
         → (f : Fits τ (Begin ∷ H) script report rates prints) → Lawful todays_rules (ledger_left τ (Begin ∷ H) script report rates f) }
 {
@@ -32,13 +32,13 @@ pub fn fits_are_lawful()
 
 /// Script, report and rates leave one ledger: two runs of the same events whose lines of the report are the same leave the same.
 pub fn one_ledger()
-    ensures { (τ : Tariff) (H : Ledger) (left : List ℕ) (a b : List Done) → IsRun τ H left a → IsRun τ H left b → AreAlike a b
+    ensures { (τ : Tariff) (H : Ledger) (left : List ℕ) (a b : List StepRecord) → IsRun τ H left a → IsRun τ H left b → AreAlike a b
         → ledger_after τ H a ≡ ledger_after τ H b }
 {
     one_reply();
 }
 
-/// An audit is exact: what it says of a run leaves no deeds that fit further than it paired; and where any fit to the end, it says that the run is lawful.
+/// An audit is exact: what it says of a run leaves no steps that fit further than it paired; and where any fit to the end, it says that the run is lawful.
 pub fn audits_are_exact()
     ensures { (v : Verdict) (script report rates : List ℕ) (old new : Audit) (says : Says v script report rates old new)
         → IsExact v script report rates old new says }
@@ -47,7 +47,7 @@ pub fn audits_are_exact()
     one_line();
 }
 
-/// Prints fit the deeds of a run that is lawful, where they are those of what the audit says that the printer was given in it.
+/// Prints fit the steps of a run that is lawful, where they are those of what the audit says that the printer was given in it.
 pub fn prints_fit()
     ensures { (v : Verdict) (script report rates : List ℕ) (old new : Audit) (given : List Imprint) → PrintsFit v script report rates old new given }
 {

@@ -12,7 +12,7 @@ pub mod verdict;
 
 pub use audit::{audit_run, behind};
 pub use ends::LINES;
-pub use imprint::{Given, Imprint, Taken};
+pub use imprint::{Given, Imprint, Printed};
 pub use line_runs::lines::read_line;
 pub use prints::{Match, match_prints};
 pub use verdict::{Ending, Input, Judgment, Verdict};

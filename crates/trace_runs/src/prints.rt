@@ -4,7 +4,7 @@ ghost use Rattle.text_streams.specs.Texts.{print_line};
 ghost use Rattle.trace_runs.specs.Prints.{Matches};
 
 use crate::audit::behind;
-use crate::imprint::{Imprint, Taken};
+use crate::imprint::{Imprint, Printed};
 use text_streams::put_digits;
 
 /// The bytes of the line of a mark: two hexadecimal digits for each of its 64 bytes, and the line end.
@@ -67,8 +67,8 @@ pub fn match_prints(imprints: &[Imprint], prints: &[u8]) -> Match
     for place in 0..imprints.len() {
         let imprint = imprint_in(imprints, place);
         match imprint.given.taken {
-            Taken::Whole => {}
-            Taken::Failed | Taken::Stopped => return Match::Open(place),
+            Printed::Whole => {}
+            Printed::Failed | Printed::Stopped => return Match::Open(place),
         }
         if !is_line(&imprint.given.mark, first_of(rest)) {
             return Match::Differ(place);

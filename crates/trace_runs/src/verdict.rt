@@ -27,7 +27,7 @@ pub enum Verdict {
     /// Each event may have got the line that the report has for it, and the report ends as the script does.
     Lawful(Ending),
     /// So far as for `Lawful`; but the report ends before the line end of the answer to the line of this number, which is that of an event. What
-    /// stands there, which may be nothing, is the front of the line of a reply that the event may get.
+    /// stands there, which may be nothing, is the prefix of the line of a reply that the event may get.
     Stopped(u32),
     /// The lines before the line of this number may be so, but its event may get no reply of the line that the report has, nor one whose line begins
     /// with what it ends with. This was the answer.

@@ -7,7 +7,7 @@ use Rattle.node_acts.specs.declared.asked.Asked.{Asked}
 use Rattle.node_acts.specs.Views.{View}
 use Rattle.verifier.specs.Seen.{Seen, counting, IsKnown}
 use Rattle.bench_abstraction.specs.declared.calls.VerifierCall.{VerifierCall}
-use Rattle.bench_abstraction.specs.declared.taken.Work.TheVariants as work
+use Rattle.bench_abstraction.specs.declared.routing.OfDay.TheVariants as of_day
 use Rattle.bench_abstraction.specs.Verifier.{verifier_kind, verifier_act, AreBytes}
 use Rattle.bench_abstraction.specs.Follows.{VerifierFollows}
 use Rattle.bench_abstraction.specs.Kinds.{bench_kinds}
@@ -21,9 +21,9 @@ by_acts today v call = (verifier_act today call v.state, refl, call_plain today 
 unreleasing : AreUnreleasing counting verifier_kind Verifier tt
 unreleasing today v call = (verifier_act today call v.state, refl, call_releases today call v.state)
 
-no_rates : (asked : Asked VerifierCall) → work.Verifier asked ≢ work.Rates
+no_rates : (asked : Asked VerifierCall) → of_day.Verifier asked ≢ of_day.Rates
 no_rates asked is = cc
 
 pub by_ledger : (today : ℤ) (asked : Asked VerifierCall) (line : List ℕ) (v w : View Seen) (result : Result (Option (List ℕ)) Reply) → VerifierFollows counting bench_kinds IsKnown
     → IsKnown v.state → IfSome (commit_in today asked v) (λ x. IsKnown x.1) → IsByView today asked line v w result → IsByLedger today asked line v w result
-by_ledger today asked line v w result law known next judged = lifts counting verifier_kind Verifier tt by_acts work.Verifier no_rates AreBytes IsKnown law today asked line v w known next unreleasing result judged
+by_ledger today asked line v w result law known next judged = lifts counting verifier_kind Verifier tt by_acts of_day.Verifier no_rates AreBytes IsKnown law today asked line v w known next unreleasing result judged

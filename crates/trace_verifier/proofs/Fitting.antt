@@ -22,7 +22,7 @@ use Rattle.bench_abstraction.specs.declared.calls.VerifierCall.TheVariants as ca
 use Rattle.bench_abstraction.specs.Verifier.{verifier_act}
 use Rattle.trace_nodes.specs.Judged.{PrintsNone}
 use Rattle.trace_nodes.specs.Giving.{ReleasesNone}
-use Rattle.trace_nodes.specs.Seats.{FitsAct}
+use Rattle.trace_nodes.specs.TracedNodes.{FitsAct}
 use Rattle.trace_verifier.specs.Records.{IsRanged}
 use Rattle.trace_verifier.proofs.Kept.{few_put}
 

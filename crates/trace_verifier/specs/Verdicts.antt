@@ -10,7 +10,7 @@ use Rattle.node_acts.specs.Views.{View}
 use Rattle.verifier.specs.Seen.{Seen, counting}
 use Rattle.ledger_moves.specs.Tariffs.{Tariff}
 use Rattle.bench_abstraction.specs.declared.calls.VerifierCall.{VerifierCall}
-use Rattle.bench_abstraction.specs.declared.taken.Work.TheVariants as work
+use Rattle.bench_abstraction.specs.declared.routing.OfDay.TheVariants as of_day
 use Rattle.bench_abstraction.specs.Verifier.{verifier_kind, AreBytes}
 use Rattle.trace_views.specs.Verdicts as views
 
@@ -25,4 +25,4 @@ abbrev pub MovesBy : Tariff → Ledger → Event → List ℕ → View Seen → 
 MovesBy = views.MovesBy counting verifier_kind Verifier tt
 
 abbrev pub IsByLedger : ℤ → Asked VerifierCall → List ℕ → View Seen → View Seen → Result (Option (List ℕ)) Reply → Type 0
-IsByLedger = views.IsByLedger counting verifier_kind Verifier tt work.Verifier AreBytes
+IsByLedger = views.IsByLedger counting verifier_kind Verifier tt of_day.Verifier AreBytes

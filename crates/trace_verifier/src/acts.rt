@@ -4,10 +4,10 @@ ghost use Rattle.bench_abstraction.specs.Verifier as views;
 ghost use Rattle.trace_verifier.specs.Cells.{cells_of};
 
 use crate::record::ScanRecord;
+use bench_abstraction::VerifierCall;
 use bench_base::events::Reply;
 use bench_base::numbers::DayNo;
 use call_handlers::VerifierCallee;
-use bench_abstraction::VerifierCall;
 use node_acts::{Act, Said};
 use trace_nodes::said_act;
 use verifier::Change;

@@ -7,14 +7,14 @@ ghost use Rattle.trace_verifier.specs.Verdicts.{IsByView, IsByLedger, commit_in}
 
 use crate::acts::scan_said;
 use crate::record::ScanRecord;
+use bench_abstraction::VerifierCall;
+use bench_abstraction::laws::verifier_follows;
 use bench_base::bytes::Note;
 use bench_base::events::Reply;
 use bench_base::numbers::DayNo;
 use bench_base::words::Node;
-use bench_abstraction::VerifierCall;
-use bench_abstraction::laws::verifier_follows;
 use node_acts::Asked;
-use trace_nodes::{Seat, judge_call, judge_cut, judge_off, judge_on};
+use trace_nodes::{Traced, judge_call, judge_cut, judge_off, judge_on};
 use verifier::{Change, acts_follow_the_commits};
 
 // A record is one that storage can show.
@@ -26,45 +26,45 @@ fn is_known(kept: &ScanRecord)
 
 // By what is seen of the verifier; and its record, and that after a commit, are ones that storage can show.
 fn judge_view(
-    seat: &mut Seat<ScanRecord, Change>,
+    traced: &mut Traced<ScanRecord, Change>,
     day: DayNo,
     asked: &Asked<VerifierCall>,
     line: &[u8],
 ) -> Result<Option<Note>, Reply>
-    requires settled { IsSettled seat.old }
+    requires settled { IsSettled traced.old }
     requires ranged { IsRangedAsked asked.now }
-    ensures settled { IsSettled seat.new }
-    ensures judged { IsByView day asked.now line.now (view_of seat.old) (view_of seat.new) result }
-    ensures known { IsKnown (cells_of seat.old.record) }
-    ensures next { IfSome (commit_in day asked.now (view_of seat.old)) (λ x. IsKnown x.1) }
+    ensures settled { IsSettled traced.new }
+    ensures judged { IsByView day asked.now line.now (view_of traced.old) (view_of traced.new) result }
+    ensures known { IsKnown (cells_of traced.old.record) }
+    ensures next { IfSome (commit_in day asked.now (view_of traced.old)) (λ x. IsKnown x.1) }
 {
     acts_follow_the_commits();
-    is_known(&seat.record);
+    is_known(&traced.record);
     let name = Node::Verifier;
     match asked {
-        Asked::On => judge_on(seat, &name, line),
-        Asked::Off => judge_off(seat, &name, line),
-        Asked::Cut(_, _, _) => judge_cut(seat, &name, line),
+        Asked::On => judge_on(traced, &name, line),
+        Asked::Off => judge_off(traced, &name, line),
+        Asked::Cut(_, _, _) => judge_cut(traced, &name, line),
         Asked::Call(call) => {
-            let act = scan_said(call, day, &seat.record);
-            judge_call(seat, &name, &act, line)
+            let act = scan_said(call, day, &traced.record);
+            judge_call(traced, &name, &act, line)
         }
     }
 }
 
 /// Judges the line of an event that asks this of the verifier on that day: as `judge_device` of trace_device.
 pub fn judge_scans(
-    seat: &mut Seat<ScanRecord, Change>,
+    traced: &mut Traced<ScanRecord, Change>,
     day: DayNo,
     asked: &Asked<VerifierCall>,
     line: &[u8],
 ) -> Result<Option<Note>, Reply>
-    requires settled { IsSettled seat.old }
+    requires settled { IsSettled traced.old }
     requires ranged { IsRangedAsked asked.now }
-    ensures settled { IsSettled seat.new }
-    ensures by_view { IsByView day asked.now line.now (view_of seat.old) (view_of seat.new) result }
-    ensures by_ledger { IsByLedger day asked.now line.now (view_of seat.old) (view_of seat.new) result }
+    ensures settled { IsSettled traced.new }
+    ensures by_view { IsByView day asked.now line.now (view_of traced.old) (view_of traced.new) result }
+    ensures by_ledger { IsByLedger day asked.now line.now (view_of traced.old) (view_of traced.new) result }
 {
     verifier_follows();
-    judge_view(seat, day, asked, line)
+    judge_view(traced, day, asked, line)
 }

@@ -10,7 +10,7 @@ use Rattle.bench_base.specs.declared.events.Event.TheVariants as ev
 use Rattle.bench_base.specs.declared.events.Reply.{Reply}
 use Rattle.bench_base.specs.declared.events.Reply.TheVariants as r
 use Rattle.bench_base.specs.Plans.{Plan, refuse, told}
-use Rattle.bench_base.specs.Replies.{Told, Did, Refused, Armed, CameOn, WentOff, LostPower, Faulted, WasDamaged, PrinterFailed, RatesFailed, told_by}
+use Rattle.bench_base.specs.Replies.{ReplyClass, Did, Refused, Armed, CameOn, WentOff, LostPower, Faulted, WasDamaged, PrinterFailed, RatesFailed, class_of}
 use Rattle.bench_base.specs.Rules.{todays_rules}
 use Rattle.bench_base.specs.Ledger.{Ledger, torn_of, counted, IsSent, IsReleased}
 use Rattle.node_acts.specs.declared.act.Act.{Act}
@@ -23,14 +23,14 @@ use Rattle.node_acts.specs.Plans.{MayReply, Fails, after, after_told, with_commi
 use Rattle.node_acts.specs.Said.{IsPlain, seen_plan}
 use Rattle.ledger_moves.specs.Tariffs.{Tariff}
 use Rattle.ledger_moves.specs.Moves.{Moves, plan}
-use Rattle.bench_abstraction.specs.declared.taken.Taken.TheVariants as take
-use Rattle.bench_abstraction.specs.declared.taken.Work.{Work}
-use Rattle.bench_abstraction.specs.declared.taken.Work.TheVariants as work
+use Rattle.bench_abstraction.specs.declared.routing.Routed.TheVariants as route
+use Rattle.bench_abstraction.specs.declared.routing.OfDay.{OfDay}
+use Rattle.bench_abstraction.specs.declared.routing.OfDay.TheVariants as of_day
 use Rattle.bench_abstraction.specs.Follows.{Follows, FollowsAlways}
 use Rattle.bench_abstraction.specs.Kinds.{bench_kinds}
 use Rattle.bench_abstraction.specs.Messages.{sent_in, SendsNone, IsFew}
 use Rattle.bench_abstraction.specs.Tariff.{quote_in}
-use Rattle.bench_abstraction.specs.Taken.{taken}
+use Rattle.bench_abstraction.specs.Routing.{routed}
 use Rattle.trace_nodes.specs.Judged.{TellsOf, TellsNone, newest_sent}
 use Rattle.trace_nodes.specs.Giving.{IsOnlyRelease, ReleasesNone}
 use Rattle.trace_nodes.proofs.Releasing.{IsUnreleasing, plan_releases, seen_unreleasing, on_unreleasing, off_unreleasing}
@@ -135,7 +135,7 @@ torn_before (Some c) m H = refl
 both_before : (p : Plan) (H : Ledger) → p.after ++ with_commit p.commit H ≡ (p.after ++ with_commit p.commit []) ++ H
 both_before p H = ap (λ (l : Ledger). p.after ++ l) (commit_before p.commit H) ∙ sym (append_both p.after (with_commit p.commit []) H)
 
-told_before : (p : Plan) (t : Told) (H : Ledger) → after_told p t H ≡ after_told p t [] ++ H
+told_before : (p : Plan) (t : ReplyClass) (H : Ledger) → after_told p t H ≡ after_told p t [] ++ H
 told_before p Did H = both_before p H
 told_before p Refused H = both_before p H
 told_before p (Armed m) H = both_before p H
@@ -155,7 +155,7 @@ through : {P Q R : Type 0} → P ↔ Q → Q ↔ R → P ↔ R
 through a b = (λ p. b.0 (a.0 p), λ r. a.1 (b.1 r))
 
 plan_adds : (p : Plan) (reply : Reply) (H : Ledger) (sent released : Option (List ℕ)) → IsFew (after p reply []) → sent ≡ newest_sent (after p reply []) → IsOnlyRelease released (after p reply []) → Adds sent released H (after p reply H)
-plan_adds p reply H sent released few sends only = subst (λ (L : Ledger). Adds sent released H L) (sym (told_before p (told_by reply) H)) (record {
+plan_adds p reply H sent released few sends only = subst (λ (L : Ledger). Adds sent released H L) (sym (told_before p (class_of reply) H)) (record {
   sends = λ bytes. through (sent_split T H bytes) (either (subst (λ (o : Option (List ℕ)). IsSent bytes T ↔ (o ≡ Some bytes)) (sym sends) (one_sent T few bytes)));
   releases = λ mark. through (released_split T H mark) (either (only mark));
 })
@@ -201,8 +201,8 @@ module _ {N S X C : Type 0} (n : Counting S X) (kind : Kind N S C) (m : Node) (d
       let act = acts today v call in
       let same : (seen_plan n m v act.0).reply ≡ r.Up i c = sym (ap (λ (p : Plan). p.reply) act.1) ∙ is in
       elim (seen_due n m v act.0 act.2) [
-        | inl did ↦ let t : told_by (r.Up i c) ≡ Did = sym (ap told_by same) ∙ did in cc
-        | inr refused ↦ let t : told_by (r.Up i c) ≡ Refused = sym (ap told_by same) ∙ refused in cc
+        | inl did ↦ let t : class_of (r.Up i c) ≡ Did = sym (ap class_of same) ∙ did in cc
+        | inr refused ↦ let t : class_of (r.Up i c) ≡ Refused = sym (ap class_of same) ∙ refused in cc
       ]
 
   own_up : (asked : Asked C) → (plan_in n kind m d today asked v).reply ≡ r.Up i c → IsOwnUp
@@ -213,8 +213,8 @@ module _ {N S X C : Type 0} (n : Counting S X) (kind : Kind N S C) (m : Node) (d
 
 -- == by the ledger ==
 
-module _ {N S X C : Type 0} (n : Counting S X) (kind : Kind N S C) (m : Node) (d : N) (acts : IsByActs n kind m d) (work_of : Asked C → Work) (no_rates : (asked : Asked C) → work_of asked ≢ work.Rates) where
-  module _ (today : ℤ) (asked : Asked C) (τ : Tariff) (H : Ledger) (e : Event) (asks : taken (sent_in H) (quote_in τ H) e ≡ Some (take.Work (work_of asked))) (f : Follows n kind m d bench_kinds τ H e today asked) where
+module _ {N S X C : Type 0} (n : Counting S X) (kind : Kind N S C) (m : Node) (d : N) (acts : IsByActs n kind m d) (work_of : Asked C → OfDay) (no_rates : (asked : Asked C) → work_of asked ≢ of_day.Rates) where
+  module _ (today : ℤ) (asked : Asked C) (τ : Tariff) (H : Ledger) (e : Event) (asks : routed (sent_in H) (quote_in τ H) e ≡ Some (route.OfDay (work_of asked))) (f : Follows n kind m d bench_kinds τ H e today asked) where
     abbrev here : View S
     here = view_in m (kind.seen d) H
 
@@ -222,7 +222,7 @@ module _ {N S X C : Type 0} (n : Counting S X) (kind : Kind N S C) (m : Node) (d
     p = plan_in n kind m d today asked here
 
     reads_none : e ≡ ev.Rates → ⊥
-    reads_none is = let same : Some (take.Work work.Rates) ≡ Some (take.Work (work_of asked)) = sym (ap (taken (sent_in H) (quote_in τ H)) is) ∙ asks in let it : work_of asked ≡ work.Rates = cc in no_rates asked it
+    reads_none is = let same : Some (route.OfDay of_day.Rates) ≡ Some (route.OfDay (work_of asked)) = sym (ap (routed (sent_in H) (quote_in τ H)) is) ∙ asks in let it : work_of asked ≡ of_day.Rates = cc in no_rates asked it
 
     opened : (i : Node) → i ≡ m → IsSome (torn_of i H) → IsSome here.next
     opened i is torn = by (torn_of m H) (subst (λ (j : Node). IsSome (torn_of j H)) is torn)
@@ -255,7 +255,7 @@ module _ {N S X C : Type 0} (n : Counting S X) (kind : Kind N S C) (m : Node) (d
           rests = does.rests;
           sends = does.sent ∙ ap (λ (l : List (List ℕ)). sent_in H ++ l) (few_sent (after (plan τ todays_rules H e []) reply []) does.few ∙ ap (λ (q : Plan). listed (newest_sent (after q reply []))) f.plan ∙ ap listed (sym of.sends));
           adds = plan_adds q reply H sent released does.few (of.sends ∙ ap (λ (x : Plan). newest_sent (after x reply [])) (sym f.plan)) (subst (λ (x : Plan). IsOnlyRelease released (after x reply [])) (sym f.plan) only);
-          alone = λ other moves is. ap (λ (t : Told). after_told (plan τ todays_rules H e []) t H) (of.alone other (may other moves) is);
+          alone = λ other moves is. ap (λ (t : ReplyClass). after_told (plan τ todays_rules H e []) t H) (of.alone other (may other moves) is);
         }
 
     never : (line : List ℕ) (w : View S) (due : Reply) → TellsNone n m here p (commit_in n kind m d today asked here) line w due → MovesNever n kind m d τ H e line w due

@@ -14,15 +14,15 @@ use Rattle.node_acts.specs.Kinds.{Kind, view_in, node_plan, node_commit}
 use Rattle.ledger_moves.specs.Tariffs.{Tariff}
 use Rattle.ledger_moves.specs.Moves.{Moves, answer, entries}
 use Rattle.ledger_moves.specs.Histories.{History, Unforged}
-use Rattle.bench_abstraction.specs.declared.taken.Taken.TheVariants as take
-use Rattle.bench_abstraction.specs.declared.taken.Work.{Work}
+use Rattle.bench_abstraction.specs.declared.routing.Routed.TheVariants as route
+use Rattle.bench_abstraction.specs.declared.routing.OfDay.{OfDay}
 use Rattle.bench_abstraction.specs.Follows.{OthersStay, Rests}
 use Rattle.bench_abstraction.specs.Kinds.{bench_kinds}
 use Rattle.bench_abstraction.specs.Messages.{sent_in}
 use Rattle.bench_abstraction.specs.Tariff.{quote_in}
-use Rattle.bench_abstraction.specs.Taken.{taken}
+use Rattle.bench_abstraction.specs.Routing.{routed}
 use Rattle.script_text.specs.Texts.{text_of}
-use Rattle.script_text.specs.Told.{IsWholeReply}
+use Rattle.script_text.specs.ReplyRanges.{IsWholeReply}
 use Rattle.trace_nodes.specs.Judged.{Judged}
 
 -- the message, if there is one
@@ -69,10 +69,10 @@ module _ {N S X C : Type 0} (n : Counting S X) (kind : Kind N S C) (m : Node) (d
       pub rests : w ≡ view_in m (kind.seen d) H
 
   -- P holds at each history at which the node is seen so, for each event that asks this of it on this day and brings nothing forged
-  abbrev pub ByLedger : (Asked C → Work) → (Asked C → Type 0) → ℤ → Asked C → View S → (Tariff → Ledger → Event → Type 0) → Type 0
+  abbrev pub ByLedger : (Asked C → OfDay) → (Asked C → Type 0) → ℤ → Asked C → View S → (Tariff → Ledger → Event → Type 0) → Type 0
   ByLedger work_of IsWhole today asked v P = (τ : Tariff) (H : Ledger) (e : Event) → History τ editions H → Unforged e H
       → day_in H ≡ Some today → IsWholeEvent e
-      → taken (sent_in H) (quote_in τ H) e ≡ Some (take.Work (work_of asked)) → IsWhole asked → view_in m (kind.seen d) H ≡ v → P τ H e
+      → routed (sent_in H) (quote_in τ H) e ≡ Some (route.OfDay (work_of asked)) → IsWhole asked → view_in m (kind.seen d) H ≡ v → P τ H e
 
   -- == of a node that releases nothing and prints nothing ==
 
@@ -86,5 +86,5 @@ module _ {N S X C : Type 0} (n : Counting S X) (kind : Kind N S C) (m : Node) (d
 
   -- At each history at which the node is seen so, and for each event that asks this of it on this day and brings nothing forged, the
   -- judgement of the line is that of the ledger.
-  abbrev pub IsByLedger : (Asked C → Work) → (Asked C → Type 0) → ℤ → Asked C → List ℕ → View S → View S → Result (Option (List ℕ)) Reply → Type 0
+  abbrev pub IsByLedger : (Asked C → OfDay) → (Asked C → Type 0) → ℤ → Asked C → List ℕ → View S → View S → Result (Option (List ℕ)) Reply → Type 0
   IsByLedger work_of IsWhole today asked line v w result = ByLedger work_of IsWhole today asked v (λ τ H e. MovesBy τ H e line w result)

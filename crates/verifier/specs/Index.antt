@@ -44,7 +44,7 @@ pub record AreOrdered (es : List Entry) : Type 0 where
   pub words : (i : ℕ) → (get_or es i nothing).device < 2 ^ 32
 
 -- of an array that has room for all blocks the first entries count
-pub record IsKept (entries : List Entry) (len : ℕ) : Type 0 where
+pub record IsIndexArray (entries : List Entry) (len : ℕ) : Type 0 where
   pub size : length entries ≡ MOST_BLOCKS
   pub room : len ≤ MOST_BLOCKS
   pub ordered : AreOrdered (take len entries)

@@ -35,11 +35,11 @@ impl Model for BlockIndex {
 
     ghost Value = { List Entry };
 
-    ghost use Rattle.verifier.specs.Index.{IsKept};
+    ghost use Rattle.verifier.specs.Index.{IsIndexArray};
 
     ghost view = { λ i. take i.len i.entries };
 
-    ghost invariant = { λ i. IsKept i.entries i.len };
+    ghost invariant = { λ i. IsIndexArray i.entries i.len };
 }
 
 // Whether the entry comes before this block.

@@ -16,18 +16,18 @@ use Rattle.psd_device.specs.Boots.{IsOwn}
 use Rattle.psd_device.specs.declared.node.DeviceNode.{DeviceNode}
 use Rattle.psd_device.specs.NodeView as device_view
 use Rattle.row_node.specs.NodeView as centre_view
-use Rattle.bench_abstraction.specs.declared.taken.Taken.{Taken}
-use Rattle.bench_abstraction.specs.declared.taken.Taken.TheVariants as take
+use Rattle.bench_abstraction.specs.declared.routing.Routed.{Routed}
+use Rattle.bench_abstraction.specs.declared.routing.Routed.TheVariants as route
 use Rattle.centre_ledger.specs.Seen as centre_seen
 use Rattle.host_jobs.specs.Seen as host_seen
 use Rattle.verifier.specs.Seen as verifier_seen
-use Rattle.bench_abstraction.specs.declared.taken.Work.TheVariants as work
+use Rattle.bench_abstraction.specs.declared.routing.OfDay.TheVariants as of_day
 use Rattle.bench_abstraction.specs.Devices as device_kinds
 use Rattle.bench_abstraction.specs.Centre as centres
 use Rattle.bench_abstraction.specs.Verifier as verifiers
 use Rattle.bench_abstraction.specs.Comparing.{compare}
 use Rattle.bench_abstraction.specs.Tariff.{quote}
-use Rattle.bench_abstraction.specs.Taken.{IsPriced}
+use Rattle.bench_abstraction.specs.Routing.{IsPriced}
 use Rattle.bench.specs.contracts.benches.BenchOverHasNodes.TheImpl.{ghosts}
 use Rattle.bench.specs.Benches.{Nodes, BenchOf, bench_of, devices, centre as centre_of, host as host_of, verifier as verifier_of}
 use Rattle.bench.specs.Calls.{device_event, centre_event, host_event, verifier_event, centre_call_event, host_call_event, verifier_call_event}
@@ -69,8 +69,8 @@ returns-in-Day-clause-did g c =
     let old = bench_of c.args.bench.now in
     let t = c.in-Day.day in
     let turn = turn_of (r.Day t) (entry.Day t ∷ []) in
-    let is = taken_as old.messages c.deref.result.now (quote old.rates) c.args.event.now c.take-found.result c.in-Some.taken (take.Day t) c.deref.ensures.value c.take-found.ensures.exact c.in-Some.is c.in-Day.is in
-    let e_is : c.args.event.now ≡ ev.Day t = quiet_is old.messages (quote old.rates) c.args.event.now (take.Day t) is tt in (
+    let is = taken_as old.messages c.deref.result.now (quote old.rates) c.args.event.now c.route-found.result c.in-Some.taken (route.Day t) c.deref.ensures.value c.route-found.ensures.exact c.in-Some.is c.in-Day.is in
+    let e_is : c.args.event.now ≡ ev.Day t = quiet_is old.messages (quote old.rates) c.args.event.now (route.Day t) is tt in (
       turn,
       c.begun.ensures,
       refl,
@@ -83,8 +83,8 @@ returns-in-Day-clause-did g c =
 pub returns-in-End-clause-did : goal.returns-in-End-clause-did
 returns-in-End-clause-did g c =
     let old = bench_of c.args.bench.now in
-    let is = taken_as old.messages c.deref.result.now (quote old.rates) c.args.event.now c.take-found.result c.in-Some.taken take.End c.deref.ensures.value c.take-found.ensures.exact c.in-Some.is c.in-End.is in
-    let e_is : c.args.event.now ≡ ev.End = quiet_is old.messages (quote old.rates) c.args.event.now take.End is tt in (
+    let is = taken_as old.messages c.deref.result.now (quote old.rates) c.args.event.now c.route-found.result c.in-Some.taken route.End c.deref.ensures.value c.route-found.ensures.exact c.in-Some.is c.in-End.is in
+    let e_is : c.args.event.now ≡ ev.End = quiet_is old.messages (quote old.rates) c.args.event.now route.End is tt in (
       turn_of r.End [],
       c.silent.ensures,
       refl,
@@ -99,14 +99,14 @@ pub returns-in-None-clause-did : goal.returns-in-None-clause-did
 returns-in-None-clause-did g c =
     let old = bench_of c.args.bench.now in
     let e = c.args.event.now in
-    let is = taken_as old.messages c.deref.result.now (quote old.rates) e c.take-found.result c.in-Some.taken (take.Work c.in-Work.work) c.deref.ensures.value c.take-found.ensures.exact c.in-Some.is c.in-Work.is in
+    let is = taken_as old.messages c.deref.result.now (quote old.rates) e c.route-found.result c.in-Some.taken (route.OfDay c.in-OfDay.work) c.deref.ensures.value c.route-found.ensures.exact c.in-Some.is c.in-OfDay.is in
     let turn = turn_of r.NoDay [] in (
       turn,
       c.silent-in-None.ensures,
       refl,
       λ feed. let out = beside feed (printer_of g.P.Sink c.args.printer.now) in
           as_sent (nodes_in g) e [] turn old old out out refl
-          (steps_none (nodes_in g) old c.requires.ready out e c.requires.whole (needs_taken old.messages (quote old.rates) e c.in-Work.work is) c.in-None.is),
+          (steps_none (nodes_in g) old c.requires.ready out e c.requires.whole (needs_taken old.messages (quote old.rates) e c.in-OfDay.work is) c.in-None.is),
     )
 
 -- == what the bench answers by what it sees ==
@@ -115,7 +115,7 @@ pub returns-in-NoMessage-clause-did : goal.returns-in-NoMessage-clause-did
 returns-in-NoMessage-clause-did g c =
     let old = bench_of c.args.bench.now in
     let k = c.in-NoMessage.number in
-    let is = work_as old.messages c.deref.result.now (quote old.rates) c.args.event.now c.take-found.result c.in-Some.taken c.in-Work.work (work.NoMessage k) c.deref.ensures.value c.take-found.ensures.exact c.in-Some.is c.in-Work.is c.in-NoMessage.is in
+    let is = work_as old.messages c.deref.result.now (quote old.rates) c.args.event.now c.route-found.result c.in-Some.taken c.in-OfDay.work (of_day.NoMessage k) c.deref.ensures.value c.route-found.ensures.exact c.in-Some.is c.in-OfDay.is c.in-NoMessage.is in
     let turn = turn_of (r.NoMessage k) [] in (
       turn,
       c.silent-in-NoMessage.ensures,
@@ -135,10 +135,10 @@ pub returns-in-Reconcile-clause-did : goal.returns-in-Reconcile-clause-did
 returns-in-Reconcile-clause-did g c =
     let old = bench_of c.args.bench.now in
     let d = c.in-Reconcile.device in
-    let is = work_as old.messages c.deref.result.now (quote old.rates) c.args.event.now c.take-found.result c.in-Some.taken c.in-Work.work (work.Reconcile d) c.deref.ensures.value c.take-found.ensures.exact c.in-Some.is c.in-Work.is c.in-Reconcile.is in
+    let is = work_as old.messages c.deref.result.now (quote old.rates) c.args.event.now c.route-found.result c.in-Some.taken c.in-OfDay.work (of_day.Reconcile d) c.deref.ensures.value c.route-found.ensures.exact c.in-Some.is c.in-OfDay.is c.in-Reconcile.is in
     let shows : ShowsAt d old.devices old.centre c.compare.result =
     subst (λ (l : List (DeviceNode g.row.M.Denot g.M.Nv)). ShowsAt d l old.centre c.compare.result) c.deref-in-Reconcile.ensures.value c.compare.ensures in
-    let e_is : c.args.event.now ≡ ev.Reconcile d = quiet_is old.messages (quote old.rates) c.args.event.now (take.Work (work.Reconcile d)) is tt in
+    let e_is : c.args.event.now ≡ ev.Reconcile d = quiet_is old.messages (quote old.rates) c.args.event.now (route.OfDay (of_day.Reconcile d)) is tt in
     let own = subst IsWholeEvent e_is c.requires.whole in
     let s = get_some old.devices (d - 1) (omega (arith, own.0, own.1, c.requires.ready.eight)) in
     let one : c.compare.result ≡ compare d (running_device s.0) (running_centre old.centre) = shows (d - 1) s.0 (omega (arith, own.0)) s.1 in (
@@ -165,14 +165,14 @@ returns-in-Device-clause-did g c =
     let old = bench_of c.args.bench.now in
     let did = c.device_turn.ensures.did in
     let today = c.in-Some-today.day in
-    let is = work_as old.messages c.deref.result.now (quote old.rates) e c.take-found.result c.in-Some.taken c.in-Work.work (work.Device b.device b.asked) c.deref.ensures.value c.take-found.ensures.exact c.in-Some.is c.in-Work.is b.is in
+    let is = work_as old.messages c.deref.result.now (quote old.rates) e c.route-found.result c.in-Some.taken c.in-OfDay.work (of_day.Device b.device b.asked) c.deref.ensures.value c.route-found.ensures.exact c.in-Some.is c.in-OfDay.is b.is in
     let new = sending did.0 (record old { devices = c.device_turn.new.devices.items }) in (
       did.0,
       did.1,
       refl,
       λ feed. let before = beside feed (printer_of g.P.Sink c.args.printer.now) in
           let now = beside feed (printer_of g.P.Sink c.device_turn.new.printer) in
-          steps (nodes_in g) e (device_event b.device b.asked) today old new did.0 before now (Device b.device) (devices (nodes_in g)) b.device b.asked did.2.before did.2.now (work.Device b.device)
+          steps (nodes_in g) e (device_event b.device b.asked) today old new did.0 before now (Device b.device) (devices (nodes_in g)) b.device b.asked did.2.before did.2.now (of_day.Device b.device)
           (device_asked (nodes_in g) e today old new did.0 before now c.in-Some-today.is refl refl refl refl b.device b.asked did.2 refl refl refl is)
           c.requires.whole c.requires.ready c.prices_by_text.ensures.kept (λ asked. Unit {0}) tt device_kinds.IsKnown (known_device g b.device) (c.nodes_follow.ensures.devices b.device),
     )
@@ -181,7 +181,7 @@ pub node_turn-requires : goal.node_turn-requires
 node_turn-requires g c =
     let old = bench_of c.args.bench.now in
     let b = c.in-Centre in
-    let is = work_as old.messages c.deref.result.now (quote old.rates) c.args.event.now c.take-found.result c.in-Some.taken c.in-Work.work (work.Centre b.asked) c.deref.ensures.value c.take-found.ensures.exact c.in-Some.is c.in-Work.is b.is in
+    let is = work_as old.messages c.deref.result.now (quote old.rates) c.args.event.now c.route-found.result c.in-Some.taken c.in-OfDay.work (of_day.Centre b.asked) c.deref.ensures.value c.route-found.ensures.exact c.in-Some.is c.in-OfDay.is b.is in
     record { ranged = centre_ranged old.messages (quote old.rates) c.args.event.now b.asked is c.requires.whole }
 
 pub returns-in-Centre-clause-did : goal.returns-in-Centre-clause-did
@@ -191,14 +191,14 @@ returns-in-Centre-clause-did g c =
     let old = bench_of c.args.bench.now in
     let did = told_event _ _ _ _ _ _ _ centre_call_event (λ turn. g.T.Tell.IsOf c.node_turn.result turn) _ _ _ _ b.asked c.node_turn.ensures.did in
     let today = c.in-Some-today.day in
-    let is = work_as old.messages c.deref.result.now (quote old.rates) e c.take-found.result c.in-Some.taken c.in-Work.work (work.Centre b.asked) c.deref.ensures.value c.take-found.ensures.exact c.in-Some.is c.in-Work.is b.is in
+    let is = work_as old.messages c.deref.result.now (quote old.rates) e c.route-found.result c.in-Some.taken c.in-OfDay.work (of_day.Centre b.asked) c.deref.ensures.value c.route-found.ensures.exact c.in-Some.is c.in-OfDay.is b.is in
     let new = sending did.0 (record old { centre = c.node_turn.new.place }) in (
       did.0,
       did.1,
       refl,
       λ feed. let before = beside feed (printer_of g.P.Sink c.args.printer.now) in
           let now = beside feed (printer_of g.P.Sink c.node_turn.new.printer) in
-          steps (nodes_in g) e (centre_event b.asked) today old new did.0 before now Centre (centre_of (nodes_in g)) tt b.asked old.centre new.centre work.Centre
+          steps (nodes_in g) e (centre_event b.asked) today old new did.0 before now Centre (centre_of (nodes_in g)) tt b.asked old.centre new.centre of_day.Centre
           (centre_asked (nodes_in g) e today old new did.0 before now c.in-Some-today.is refl refl refl refl b.asked did.2 did.3 refl refl refl is)
           c.requires.whole c.requires.ready c.prices_by_text.ensures.kept centres.AreBytes (of_call centres.AreBytes tt tt (λ calls keep byte. tt) (λ call bytes. bytes) b.asked c.node_turn.ensures.bytes)
           centre_seen.IsKnown (λ s sound. sound.known) c.nodes_follow.ensures.centre,
@@ -208,8 +208,8 @@ pub node_turn-requires-in-Host : goal.node_turn-requires-in-Host
 node_turn-requires-in-Host g c =
     let old = bench_of c.args.bench.now in
     let b = c.in-Host in
-    let is = work_as old.messages c.deref.result.now (quote old.rates) c.args.event.now c.take-found.result c.in-Some.taken c.in-Work.work (work.Host b.asked) c.deref.ensures.value c.take-found.ensures.exact c.in-Some.is c.in-Work.is b.is in
-    let priced = subst (λ (o : Option Taken). IfSome o IsPriced) (c.in-Some.is ∙ ap (λ x. Some x) (c.in-Work.is ∙ ap (λ x. take.Work x) b.is)) c.take-found.ensures.priced in
+    let is = work_as old.messages c.deref.result.now (quote old.rates) c.args.event.now c.route-found.result c.in-Some.taken c.in-OfDay.work (of_day.Host b.asked) c.deref.ensures.value c.route-found.ensures.exact c.in-Some.is c.in-OfDay.is b.is in
+    let priced = subst (λ (o : Option Routed). IfSome o IsPriced) (c.in-Some.is ∙ ap (λ x. Some x) (c.in-OfDay.is ∙ ap (λ x. route.OfDay x) b.is)) c.route-found.ensures.priced in
     record { ranged = host_ranged old.messages (quote old.rates) c.args.event.now b.asked is c.requires.whole priced }
 
 pub returns-in-Host-clause-did : goal.returns-in-Host-clause-did
@@ -219,14 +219,14 @@ returns-in-Host-clause-did g c =
     let old = bench_of c.args.bench.now in
     let did = told_event _ _ _ _ _ _ _ host_call_event (λ turn. g.T.Tell.IsOf c.node_turn-in-Host.result turn) _ _ _ _ b.asked c.node_turn-in-Host.ensures.did in
     let today = c.in-Some-today.day in
-    let is = work_as old.messages c.deref.result.now (quote old.rates) e c.take-found.result c.in-Some.taken c.in-Work.work (work.Host b.asked) c.deref.ensures.value c.take-found.ensures.exact c.in-Some.is c.in-Work.is b.is in
+    let is = work_as old.messages c.deref.result.now (quote old.rates) e c.route-found.result c.in-Some.taken c.in-OfDay.work (of_day.Host b.asked) c.deref.ensures.value c.route-found.ensures.exact c.in-Some.is c.in-OfDay.is b.is in
     let new = sending did.0 (record old { host = c.node_turn-in-Host.new.place }) in (
       did.0,
       did.1,
       refl,
       λ feed. let before = beside feed (printer_of g.P.Sink c.args.printer.now) in
           let now = beside feed (printer_of g.P.Sink c.node_turn-in-Host.new.printer) in
-          steps (nodes_in g) e (host_event b.asked) today old new did.0 before now Host (host_of (nodes_in g)) tt b.asked old.host new.host work.Host
+          steps (nodes_in g) e (host_event b.asked) today old new did.0 before now Host (host_of (nodes_in g)) tt b.asked old.host new.host of_day.Host
           (host_asked (nodes_in g) e today old new did.0 before now c.in-Some-today.is refl refl refl refl b.asked did.2 did.3 refl refl refl is)
           c.requires.whole c.requires.ready c.prices_by_text.ensures.kept (λ asked. Unit {0}) tt host_seen.IsKnown (λ s sound. sound) c.host_follows.ensures,
     )
@@ -235,7 +235,7 @@ pub node_turn-requires-in-Verifier : goal.node_turn-requires-in-Verifier
 node_turn-requires-in-Verifier g c =
     let old = bench_of c.args.bench.now in
     let b = c.in-Verifier in
-    let is = work_as old.messages c.deref.result.now (quote old.rates) c.args.event.now c.take-found.result c.in-Some.taken c.in-Work.work (work.Verifier b.asked) c.deref.ensures.value c.take-found.ensures.exact c.in-Some.is c.in-Work.is b.is in
+    let is = work_as old.messages c.deref.result.now (quote old.rates) c.args.event.now c.route-found.result c.in-Some.taken c.in-OfDay.work (of_day.Verifier b.asked) c.deref.ensures.value c.route-found.ensures.exact c.in-Some.is c.in-OfDay.is b.is in
     record { ranged = verifier_ranged old.messages (quote old.rates) c.args.event.now b.asked is c.requires.whole }
 
 pub returns-in-Verifier-clause-did : goal.returns-in-Verifier-clause-did
@@ -245,14 +245,14 @@ returns-in-Verifier-clause-did g c =
     let old = bench_of c.args.bench.now in
     let did = told_event _ _ _ _ _ _ _ verifier_call_event (λ turn. g.T.Tell.IsOf c.node_turn-in-Verifier.result turn) _ _ _ _ b.asked c.node_turn-in-Verifier.ensures.did in
     let today = c.in-Some-today.day in
-    let is = work_as old.messages c.deref.result.now (quote old.rates) e c.take-found.result c.in-Some.taken c.in-Work.work (work.Verifier b.asked) c.deref.ensures.value c.take-found.ensures.exact c.in-Some.is c.in-Work.is b.is in
+    let is = work_as old.messages c.deref.result.now (quote old.rates) e c.route-found.result c.in-Some.taken c.in-OfDay.work (of_day.Verifier b.asked) c.deref.ensures.value c.route-found.ensures.exact c.in-Some.is c.in-OfDay.is b.is in
     let new = sending did.0 (record old { verifier = c.node_turn-in-Verifier.new.place }) in (
       did.0,
       did.1,
       refl,
       λ feed. let before = beside feed (printer_of g.P.Sink c.args.printer.now) in
           let now = beside feed (printer_of g.P.Sink c.node_turn-in-Verifier.new.printer) in
-          steps (nodes_in g) e (verifier_event b.asked) today old new did.0 before now Verifier (verifier_of (nodes_in g)) tt b.asked old.verifier new.verifier work.Verifier
+          steps (nodes_in g) e (verifier_event b.asked) today old new did.0 before now Verifier (verifier_of (nodes_in g)) tt b.asked old.verifier new.verifier of_day.Verifier
           (verifier_asked (nodes_in g) e today old new did.0 before now c.in-Some-today.is refl refl refl refl b.asked did.2 did.3 refl refl refl is)
           c.requires.whole c.requires.ready c.prices_by_text.ensures.kept verifiers.AreBytes (of_call verifiers.AreBytes tt tt (λ calls keep byte. tt) (λ call bytes. bytes) b.asked c.node_turn-in-Verifier.ensures.bytes)
           verifier_seen.IsKnown (λ s sound. sound) c.verifier_follows.ensures,

@@ -15,9 +15,9 @@ use Rattle.host_jobs.specs.declared.rows.JobRow.{JobRow}
 use Rattle.host_jobs.specs.Records.{seen_after}
 use Rattle.host_jobs.specs.Seen as host
 use Rattle.bench_abstraction.specs.declared.calls.HostCall.{HostCall}
-use Rattle.bench_abstraction.specs.declared.taken.Taken.TheVariants as take
-use Rattle.bench_abstraction.specs.declared.taken.Work.TheVariants as work
-use Rattle.bench_abstraction.specs.Taken.{taken}
+use Rattle.bench_abstraction.specs.declared.routing.Routed.TheVariants as route
+use Rattle.bench_abstraction.specs.declared.routing.OfDay.TheVariants as of_day
+use Rattle.bench_abstraction.specs.Routing.{routed}
 use Rattle.bench_abstraction.specs.Host as views
 use Rattle.bench_abstraction.specs.Tariff.{quote_in}
 use Rattle.bench_abstraction.specs.Messages.{sent_in}
@@ -44,7 +44,7 @@ returns c τ H e today asked h unforged day whole of fits known next_known =
     let are_planned = c.acts_follow_the_commits.ensures.planned in
     let counts = commits.counts laws (counted H) turn (c.counts.ensures.cells τ todays_rules _ H editions h) in
     let whole_call : (k : HostCall) → asked ≡ Call k → calls.IsWholeCall k =
-    λ k is. calls.whole_call H (quote_in τ H) e k (subst (λ a. taken (sent_in H) (quote_in τ H) e ≡ Some (take.Work (work.Host a))) is of) whole in
+    λ k is. calls.whole_call H (quote_in τ H) e k (subst (λ a. routed (sent_in H) (quote_in τ H) e ≡ Some (route.OfDay (of_day.Host a))) is of) whole in
     followed n views.host_kind Host tt τ H e today asked
     (c.orders.ensures.torn τ todays_rules _ H editions h)
     (c.orders.ensures.next τ todays_rules _ H editions h e [] whole unforged)

@@ -21,9 +21,9 @@ use Rattle.centre_ledger.specs.declared.rows.Row.{Row}
 use Rattle.ledger_laws.specs.Nexts.{AreOrdered}
 use Rattle.bench_abstraction.specs.declared.calls.DeviceCall.{DeviceCall}
 use Rattle.bench_abstraction.specs.declared.calls.CentreCall.{CentreCall}
-use Rattle.bench_abstraction.specs.declared.taken.Taken.TheVariants as take
-use Rattle.bench_abstraction.specs.declared.taken.Work.TheVariants as work
-use Rattle.bench_abstraction.specs.Taken.{taken}
+use Rattle.bench_abstraction.specs.declared.routing.Routed.TheVariants as route
+use Rattle.bench_abstraction.specs.declared.routing.OfDay.TheVariants as of_day
+use Rattle.bench_abstraction.specs.Routing.{routed}
 use Rattle.bench_abstraction.specs.Devices as devices
 use Rattle.bench_abstraction.specs.Centre as views
 use Rattle.bench_abstraction.specs.Centre.{AreBytes}
@@ -87,7 +87,7 @@ returns-clause-centre c τ H e today asked h unforged day whole of bytes known n
     let sent = (c.histories.ensures.holds τ todays_rules _ H editions h).sent in
     let counts = counting.counts (counted H) ordered.centre (c.counts.ensures.cells τ todays_rules _ H editions h) in
     let whole_call : (k : CentreCall) → asked ≡ Call k → calls.IsWholeCall k =
-    λ k is. calls.whole_call H (quote_in τ H) e k (subst (λ a. taken (sent_in H) (quote_in τ H) e ≡ Some (take.Work (work.Centre a))) is of) whole (subst AreBytes is bytes) in
+    λ k is. calls.whole_call H (quote_in τ H) e k (subst (λ a. routed (sent_in H) (quote_in τ H) e ≡ Some (route.OfDay (of_day.Centre a))) is of) whole (subst AreBytes is bytes) in
     followed n views.centre_kind Centre tt τ H e today asked
     (c.orders.ensures.torn τ todays_rules _ H editions h)
     (c.orders.ensures.next τ todays_rules _ H editions h e [] whole unforged)

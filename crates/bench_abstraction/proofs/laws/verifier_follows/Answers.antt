@@ -15,9 +15,9 @@ use Rattle.verifier.specs.declared.acts.Change.{Change}
 use Rattle.verifier.specs.Records.{seen_after, IsRecorded}
 use Rattle.verifier.specs.Seen as verifier
 use Rattle.bench_abstraction.specs.declared.calls.VerifierCall.{VerifierCall}
-use Rattle.bench_abstraction.specs.declared.taken.Taken.TheVariants as take
-use Rattle.bench_abstraction.specs.declared.taken.Work.TheVariants as work
-use Rattle.bench_abstraction.specs.Taken.{taken}
+use Rattle.bench_abstraction.specs.declared.routing.Routed.TheVariants as route
+use Rattle.bench_abstraction.specs.declared.routing.OfDay.TheVariants as of_day
+use Rattle.bench_abstraction.specs.Routing.{routed}
 use Rattle.bench_abstraction.specs.Verifier as views
 use Rattle.bench_abstraction.specs.Tariff.{quote_in}
 use Rattle.bench_abstraction.specs.Messages.{sent_in}
@@ -43,7 +43,7 @@ returns c τ H e today asked h unforged day whole of bytes known next_known =
     let call_commit : VerifierCall → Option (Commit × verifier.Seen) = λ k. commit_of n v (act k) in
     let counts = follow.counted (counted H) recorded in
     let whole_call : (k : VerifierCall) → asked ≡ Call k → calls.IsWholeCall k =
-    λ k is. calls.whole_call H (quote_in τ H) e k (subst (λ a. taken (sent_in H) (quote_in τ H) e ≡ Some (take.Work (work.Verifier a))) is of) whole (subst views.AreBytes is bytes) in
+    λ k is. calls.whole_call H (quote_in τ H) e k (subst (λ a. routed (sent_in H) (quote_in τ H) e ≡ Some (route.OfDay (of_day.Verifier a))) is of) whole (subst views.AreBytes is bytes) in
     followed n views.verifier_kind Verifier tt τ H e today asked
     (c.orders.ensures.torn τ todays_rules _ H editions h)
     (c.orders.ensures.next τ todays_rules _ H editions h e [] whole unforged)

@@ -10,7 +10,7 @@ returns-clause-ran g c =
       old = bench_of c.args.bench;
       new = bench_of c.run_statement.new.bench;
       made = c.requires.made;
-      ran = side_said _ _ c.run_statement.result _ _ _ _ _ (λ deeds did. statements_fresh _ _ _ ran.desk ran.after ran.starts c.requires.stands c.requires.tells _ deeds did) ran.ran;
+      ran = side_said _ _ c.run_statement.result _ _ _ _ _ (λ trace did. statements_fresh _ _ _ ran.desk ran.after ran.starts c.requires.stands c.requires.tells _ trace did) ran.ran;
       ends = c.run_statement.ensures.ends;
       completes = c.run_statement.ensures.completes;
     }

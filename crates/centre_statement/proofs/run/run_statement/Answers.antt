@@ -12,7 +12,7 @@ returns-clause-ran g c =
       after = c.run_side.new.desk;
       starts = c.new-desk.ensures;
       ran = record {
-        replays = λ is. said_read (side_lines statements_desk) _ _ c.run_side.result _ _ _ _ (λ deeds reads did. did_statements _ laws _ _ _ _ c.new-desk.ensures c.run_side.result deeds reads did) (c.run_side.ensures.ran.replays is);
+        replays = λ is. said_read (side_lines statements_desk) _ _ c.run_side.result _ _ _ _ (λ trace reads did. did_statements _ laws _ _ _ _ c.new-desk.ensures c.run_side.result trace reads did) (c.run_side.ensures.ran.replays is);
         nothing = λ other. did_statements _ laws _ _ _ _ c.new-desk.ensures c.run_side.result _ tt (c.run_side.ensures.ran.nothing other);
       };
     }

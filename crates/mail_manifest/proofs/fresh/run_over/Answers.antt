@@ -8,7 +8,7 @@ returns-clause-ran g c = record {
   old = bench_of c.args.bench;
   new = bench_of c.run_manifest.new.bench;
   made = c.requires.made;
-  ran = side_said _ _ c.run_manifest.result _ _ _ _ _ (λ deeds did. manifest_fresh _ _ _ c.requires.stands c.requires.tells _ deeds did) c.run_manifest.ensures.ran;
+  ran = side_said _ _ c.run_manifest.result _ _ _ _ _ (λ trace did. manifest_fresh _ _ _ c.requires.stands c.requires.tells _ trace did) c.run_manifest.ensures.ran;
   ends = c.run_manifest.ensures.ends;
   completes = c.run_manifest.ensures.completes;
 }

@@ -6,7 +6,7 @@ use Rattle.mail_manifest.proofs.run.run_manifest.Goals as goal
 
 pub returns-clause-ran : goal.returns-clause-ran
 returns-clause-ran g c = record {
-  replays = λ is. said (side_lines checker_desk) _ _ c.run_side.result _ _ _ _ (λ deeds did. did_manifest _ c.histories.ensures.today _ _ _ _ c.run_side.result c.new-checker.ensures.none deeds did) (c.run_side.ensures.ran.replays is);
+  replays = λ is. said (side_lines checker_desk) _ _ c.run_side.result _ _ _ _ (λ trace did. did_manifest _ c.histories.ensures.today _ _ _ _ c.run_side.result c.new-checker.ensures.none trace did) (c.run_side.ensures.ran.replays is);
   nothing = λ other. did_manifest _ c.histories.ensures.today _ _ _ _ c.run_side.result c.new-checker.ensures.none _ (c.run_side.ensures.ran.nothing other);
 }
 

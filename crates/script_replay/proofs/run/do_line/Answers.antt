@@ -5,7 +5,7 @@ use Rattle.bench_base.specs.declared.events.Event.{Event}
 use Rattle.bench_base.specs.declared.events.Event.TheVariants as ev
 use Rattle.script_text.specs.Grammar.{Spells}
 use Rattle.script_words.specs.declared.word.LineFault.{LineFault}
-use Rattle.line_extensions.specs.Deeds.{line_of}
+use Rattle.line_extensions.specs.Trace.{line_of}
 use Rattle.line_extensions.specs.Events.{IsLineOf}
 use Rattle.line_runs.specs.Turns.{LineEnd, Reported}
 use Rattle.line_runs.specs.declared.status.SideStatus.{SideStatus}

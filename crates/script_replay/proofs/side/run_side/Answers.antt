@@ -10,18 +10,18 @@ use Rattle.script_replay.proofs.side.run_side.Goals as goal
 
 pub returns-then-is_called-clause-ran : goal.returns-then-is_called-clause-ran
 returns-then-is_called-clause-ran g c = record {
-  replays = λ is. said (side_lines g.D.Desk) _ _ c.run_lines.result _ _ _ _ (λ deeds e. did_side _ g.D.Desk c.histories.ensures.today c.histories.ensures.holds
+  replays = λ is. said (side_lines g.D.Extension) _ _ c.run_lines.result _ _ _ _ (λ trace e. did_side _ g.D.Extension c.histories.ensures.today c.histories.ensures.holds
       (world (scene_of g.R.Source g.P.Sink c.args.bench.now c.args.rates.now c.args.printer.now) c.args.desk.now) (bench_of c.begin.new.self)
       c.requires.ready c.begin.ensures.ready c.begin.ensures.begun c.begin.ensures.no_day c.begin.ensures.no_messages c.begin.ensures.no_rates c.begin.ensures.stands
-      c.run_lines.result _ deeds e) c.run_lines.ensures.ran;
+      c.run_lines.result _ trace e) c.run_lines.ensures.ran;
   nothing = λ other. absurd (other (c.is_called.ensures.called c.if-is_called.true));
 }
 
 pub returns-then-is_called-clause-ends : goal.returns-then-is_called-clause-ends
 returns-then-is_called-clause-ends g c = record {
   exact = λ is. c.run_lines.ensures.exact;
-  words = (λ is. absurd (never_words (side_lines g.D.Desk) c.run_lines.result _ _ _ _ _ c.run_lines.ensures.ran is), λ other. absurd (other (c.is_called.ensures.called c.if-is_called.true)));
-  untouched = λ is. absurd (never_words (side_lines g.D.Desk) c.run_lines.result _ _ _ _ _ c.run_lines.ensures.ran is);
+  words = (λ is. absurd (never_words (side_lines g.D.Extension) c.run_lines.result _ _ _ _ _ c.run_lines.ensures.ran is), λ other. absurd (other (c.is_called.ensures.called c.if-is_called.true)));
+  untouched = λ is. absurd (never_words (side_lines g.D.Extension) c.run_lines.result _ _ _ _ _ c.run_lines.ensures.ran is);
   read_fault = c.run_lines.ensures.read_failed;
   write_fault = c.run_lines.ensures.write_failed;
   read_later = c.run_lines.ensures.read_later;
@@ -35,7 +35,7 @@ returns-then-is_called-clause-completes g c =
 pub returns-clause-ran : goal.returns-clause-ran
 returns-clause-ran g c = record {
   replays = λ is. absurd (c.is_called.ensures.other c.if-is_called.false is);
-  nothing = λ other. did_side _ g.D.Desk c.histories.ensures.today c.histories.ensures.holds
+  nothing = λ other. did_side _ g.D.Extension c.histories.ensures.today c.histories.ensures.holds
       (world (scene_of g.R.Source g.P.Sink c.args.bench.now c.args.rates.now c.args.printer.now) c.args.desk.now) (bench_of c.begin.new.self)
       c.requires.ready c.begin.ensures.ready c.begin.ensures.begun c.begin.ensures.no_day c.begin.ensures.no_messages c.begin.ensures.no_rates c.begin.ensures.stands
       (Run status.Words) _ [] (record { behind = _; did = refl; leaves = refl });

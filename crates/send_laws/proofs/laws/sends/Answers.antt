@@ -1,4 +1,4 @@
-use Rattle.bench_base.specs.Replies.{told_by}
+use Rattle.bench_base.specs.Replies.{class_of}
 use Rattle.bench_base.specs.Rules.{todays_rules}
 use Rattle.ledger_moves.specs.Moves.{plan}
 use Rattle.send_laws.proofs.Kept.{ordered_kept}
@@ -6,7 +6,7 @@ use Rattle.send_laws.proofs.Sending.{sent_for, order_of}
 use Rattle.send_laws.proofs.laws.sends.Goals as goal
 
 pub returns-clause-kept : goal.returns-clause-kept
-returns-clause-kept c τ H x text reply j a is = ordered_kept j a (plan τ todays_rules H x text) (told_by reply) H is
+returns-clause-kept c τ H x text reply j a is = ordered_kept j a (plan τ todays_rules H x text) (class_of reply) H is
 
 pub returns-clause-sent : goal.returns-clause-sent
 returns-clause-sent c τ ρ ρs H E h j i k text moved = sent_for τ ρ ρs H E h j i k text moved

@@ -9,7 +9,7 @@ returns g c = record {
     old = bench_of c.args.bench;
     new = bench_of c.run_claims.new.bench;
     made = c.requires.made;
-    ran = side_said _ _ c.run_claims.result _ _ _ _ _ (λ deeds did. claims_fresh _ _ _ _ c.args.desk c.run_claims.new.desk c.requires.stands c.requires.tells c.requires.none c.requires.works _ deeds did)
+    ran = side_said _ _ c.run_claims.result _ _ _ _ _ (λ trace did. claims_fresh _ _ _ _ c.args.desk c.run_claims.new.desk c.requires.stands c.requires.tells c.requires.none c.requires.works _ trace did)
         c.run_claims.ensures.ran;
     ends = c.run_claims.ensures.ends;
     completes = c.run_claims.ensures.completes;

@@ -1,5 +1,5 @@
 use Rattle.std.proofs.Common.{◌≡◌, ℕ, ◌∙◌, Bool, subst, arith}
-use Rattle.trace_bench.specs.Fronts.{LosesThere, NoneBelow}
+use Rattle.trace_bench.specs.Prefixes.{LosesThere, NoneBelow}
 use Rattle.trace_bench.specs.Seeing.{audit_of}
 use Rattle.trace_bench.proofs.Stops.{one_more, all_below}
 use Rattle.trace_bench.proofs.stopping.lose_power.Goals as goal
@@ -13,8 +13,8 @@ loop-number-preserved c = record {
   rests = λ τ H texts history unforged sees.
       let before = c.loop-number.invariant.rests τ H texts history unforged sees in
       let now = audit_of c.lose_power_there.new.auditor in
-      let lost = subst (λ (b : Bool). LosesThere τ H c.args.event.now c.args.left.now c.args.front.now c.node_at-node.result now b) c.if-branch.false (c.in_ok-lose_power_there.ensures.lost τ H texts history unforged before.1) in
-      (one_more τ H c.args.event.now c.args.left.now c.node_at-node.result c.node_at-node.ensures.named c.args.front.now now c.loop-number.number c.node_at-node.ensures.number before.0 lost, lost.1);
+      let lost = subst (λ (b : Bool). LosesThere τ H c.args.event.now c.args.left.now c.args.prefix.now c.node_at-node.result now b) c.if-branch.false (c.in_ok-lose_power_there.ensures.lost τ H texts history unforged before.1) in
+      (one_more τ H c.args.event.now c.args.left.now c.node_at-node.result c.node_at-node.ensures.named c.args.prefix.now now c.loop-number.number c.node_at-node.ensures.number before.0 lost, lost.1);
 }
 
 pub returns-then-branch-clause-lost : goal.returns-then-branch-clause-lost
@@ -27,5 +27,5 @@ pub returns-clause-lost : goal.returns-clause-lost
 returns-clause-lost c τ H texts history unforged sees =
     let before = c.loop-number.invariant.rests τ H texts history unforged sees in
     let last : c.loop-number.number ≡ 12 = omega (arith, c.loop-number-test.false, c.loop-number.auto.number-end (omega arith)) in
-    all_below τ H c.args.event.now c.args.left.now c.args.front.now (audit_of c.loop-number.auditor)
-    (subst (λ (n : ℕ). NoneBelow τ H c.args.event.now c.args.left.now n c.args.front.now) last before.0) before.1
+    all_below τ H c.args.event.now c.args.left.now c.args.prefix.now (audit_of c.loop-number.auditor)
+    (subst (λ (n : ℕ). NoneBelow τ H c.args.event.now c.args.left.now n c.args.prefix.now) last before.0) before.1

@@ -1,5 +1,5 @@
 use Rattle.std.proofs.Common.{◌≡◌, ◌≤◌}
-use Rattle.trace_bench.specs.Fronts.{NoneBelow}
+use Rattle.trace_bench.specs.Prefixes.{NoneBelow}
 use Rattle.trace_bench.specs.Judging.{AtEach}
 use Rattle.trace_bench.specs.Seeing.{IsReady, Sees, audit_of, keeps}
 use Rattle.trace_bench.proofs.stopping.lose_power.Given as goal
@@ -10,5 +10,5 @@ invariant-loop-number l = record {
   kept : keeps (audit_of l.auditor) ≡ keeps (audit_of l.fn.auditor);
   first : 1 ≤ l.number;
   unsent : (audit_of l.auditor).messages ≡ (audit_of l.fn.auditor).messages;
-  rests : AtEach (audit_of l.fn.auditor) l.event (λ τ H. NoneBelow τ H l.event l.left l.number l.front × Sees (audit_of l.auditor) H);
+  rests : AtEach (audit_of l.fn.auditor) l.event (λ τ H. NoneBelow τ H l.event l.left l.number l.prefix × Sees (audit_of l.auditor) H);
 }

@@ -1,4 +1,4 @@
-use Rattle.std.proofs.Common.{[], Err, sym, subst}
+use Rattle.std.proofs.Common.{[], Err}
 use Rattle.trace_bench.specs.Seeing.{audit_of}
 use Rattle.trace_bench.proofs.Same.{same_sees}
 use Rattle.trace_runs.specs.declared.verdict.Verdict.TheVariants.{Forged, Unkept}

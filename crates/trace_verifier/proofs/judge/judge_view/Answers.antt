@@ -9,7 +9,7 @@ use Rattle.verifier.specs.Seen.{counting, IsKnown}
 use Rattle.bench_abstraction.specs.declared.calls.VerifierCall.{VerifierCall}
 use Rattle.bench_abstraction.specs.Verifier.{verifier_act}
 use Rattle.trace_nodes.specs.Judged.{PrintsNone}
-use Rattle.trace_nodes.specs.Seats.{FitsAct, view_of}
+use Rattle.trace_nodes.specs.TracedNodes.{FitsAct, view_of}
 use Rattle.trace_verifier.specs.Cells.{cells_of}
 use Rattle.trace_verifier.specs.Records.{IsRangedAsked}
 use Rattle.trace_verifier.specs.Verdicts.{commit_in}
@@ -18,26 +18,26 @@ use Rattle.trace_verifier.proofs.judge.judge_view.Goals as goal
 
 pub judge_call-requires-clause-fits : goal.judge_call-requires-clause-fits
 judge_call-requires-clause-fits c =
-    let s = cells_of c.args.seat.now.record in
+    let s = cells_of c.args.traced.now.record in
     let leaves = leaves_by s (c.acts_follow_the_commits.ensures.sound s c.is_known.ensures.sound) c.args.day c.in-Call.call (subst IsRangedAsked c.in-Call.is c.requires.ranged) in
     subst (FitsAct (λ t x. IsFit t x) s) (sym c.scan_said-act.ensures) (fits_by s (verifier_act c.args.day c.in-Call.call s) leaves)
 
 pub judge_call-requires-clause-own : goal.judge_call-requires-clause-own
 judge_call-requires-clause-own c =
-    let s = cells_of c.args.seat.now.record in
+    let s = cells_of c.args.traced.now.record in
     let leaves = leaves_by s (c.acts_follow_the_commits.ensures.sound s c.is_known.ensures.sound) c.args.day c.in-Call.call (subst IsRangedAsked c.in-Call.is c.requires.ranged) in
     subst (IsOfNode Verifier) (sym c.scan_said-act.ensures) (own_by s (verifier_act c.args.day c.in-Call.call s) leaves)
 
 pub judge_call-requires-clause-plain : goal.judge_call-requires-clause-plain
-judge_call-requires-clause-plain c = subst IsPlain (sym c.scan_said-act.ensures) (call_plain c.args.day c.in-Call.call (cells_of c.args.seat.now.record))
+judge_call-requires-clause-plain c = subst IsPlain (sym c.scan_said-act.ensures) (call_plain c.args.day c.in-Call.call (cells_of c.args.traced.now.record))
 
 pub judge_call-requires-clause-unprinted : goal.judge_call-requires-clause-unprinted
-judge_call-requires-clause-unprinted c = subst PrintsNone (sym c.scan_said-act.ensures) (call_prints c.args.day c.in-Call.call (cells_of c.args.seat.now.record))
+judge_call-requires-clause-unprinted c = subst PrintsNone (sym c.scan_said-act.ensures) (call_prints c.args.day c.in-Call.call (cells_of c.args.traced.now.record))
 
 pub returns-in-Call-clause-next : goal.returns-in-Call-clause-next
 returns-in-Call-clause-next c =
-    let s = cells_of c.args.seat.now.record in
-    let v = view_of counting cells_of c.args.seat.now in
+    let s = cells_of c.args.traced.now.record in
+    let v = view_of counting cells_of c.args.traced.now in
     let leaves = leaves_by s (c.acts_follow_the_commits.ensures.sound s c.is_known.ensures.sound) c.args.day c.in-Call.call (subst IsRangedAsked c.in-Call.is c.requires.ranged) in
     subst (λ (a : Asked VerifierCall). IfSome (commit_in c.args.day a v) (λ x. IsKnown x.1)) (sym c.in-Call.is)
     (commit_known v (verifier_act c.args.day c.in-Call.call s) c.is_known.ensures leaves)

@@ -1,6 +1,6 @@
 use Rattle.std.proofs.Common.{◌≡◌, ℕ, ◌+◌, ◌-◌, length, length-set, set, Some, rules, sym, ap, subst, ◌∙◌, arith}
 use Rattle.bench_base.specs.Ranges.{IsCustomer}
-use Rattle.centre_ledger.specs.Books.{Books, kept_at, deposits_in, customer_at, IsKept}
+use Rattle.centre_ledger.specs.Books.{Books, kept_at, deposits_in, customer_at, IsDerived}
 use Rattle.centre_ledger.proofs.Kept.{putting_customer, kept_size, had, deposits_before, kept_own, kept_other, customer_kept}
 use Rattle.centre_ledger.proofs.accounts.Accounts.put_customer.Goals as goal
 
@@ -38,5 +38,5 @@ invariant_of-self c =
     let own : kept_at c.take.new.self r.customer + deposits_in (customer_at b r.customer) ≡ kept_at c.self.inside.balances r.customer + r.deposits = omega (arith, before, added, taken, was.sum, was.then_covered) in
     let others : (w : ℕ) → IsCustomer w → (w ≡ r.customer → ⊥) → kept_at c.take.new.self w ≡ kept_at c.self.inside.balances w = λ w in_w other.
     kept_other c.add.new.self c.take.new.self r.customer w _ p.customer in_w other c.take.ensures ∙ kept_other c.self.inside.balances c.add.new.self r.customer w _ p.customer in_w other c.add.ensures in
-    subst (λ d. IsKept (record { devices = b.devices; customers = set b.customers (d - 1) (Some r) }) c.take.new.self) (sym c.get.ensures.value)
+    subst (λ d. IsDerived (record { devices = b.devices; customers = set b.customers (d - 1) (Some r) }) c.take.new.self) (sym c.get.ensures.value)
     (customer_kept b r c.self.inside.balances c.take.new.self p size_last own others)

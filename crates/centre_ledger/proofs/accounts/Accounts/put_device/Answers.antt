@@ -1,5 +1,5 @@
 use Rattle.std.proofs.Common.{◌≡◌, ◌+◌, ◌-◌, ◌^◌, ◌<◌, length, set, Some, rules, sym, ap, subst, ◌∙◌}
-use Rattle.centre_ledger.specs.Books.{Books, kept_at, spent_in, IsKept}
+use Rattle.centre_ledger.specs.Books.{Books, kept_at, spent_in, IsDerived}
 use Rattle.centre_ledger.proofs.Kept.{GivenBack, putting, kept_size, before_is, fits, covers, device_kept}
 use Rattle.centre_ledger.proofs.accounts.Accounts.put_device.Goals as goal
 
@@ -32,6 +32,6 @@ invariant_of-self c =
       each = λ w in_w. c.give_back.ensures.given w in_w ∙ ap (λ o. kept_at c.self.inside.balances w + spent_in w o) (c.plain-before.ensures ∙ sym c.index-self-place.is ∙ before);
     } in
     let size : length c.charge.new.balances ≡ 64 = c.charge.ensures.size ∙ c.give_back.ensures.size ∙ kept_size b c.self.inside.balances p.sound p.kept in
-    subst (λ o. IsKept (record { devices = set b.devices (c.get.result - 1) o; customers = b.customers }) c.charge.new.balances) (sym c.keep.ensures)
-    (subst (λ d. IsKept (record { devices = set b.devices (d - 1) (Some r); customers = b.customers }) c.charge.new.balances) (sym c.get.ensures.value)
+    subst (λ o. IsDerived (record { devices = set b.devices (c.get.result - 1) o; customers = b.customers }) c.charge.new.balances) (sym c.keep.ensures)
+    (subst (λ d. IsDerived (record { devices = set b.devices (d - 1) (Some r); customers = b.customers }) c.charge.new.balances) (sym c.get.ensures.value)
     (device_kept b r c.self.inside.balances c.give_back.new.balances c.charge.new.balances p back size c.charge.ensures.taken))

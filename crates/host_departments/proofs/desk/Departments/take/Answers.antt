@@ -5,7 +5,7 @@ use Rattle.host_departments.specs.Courses.{Tries}
 use Rattle.host_departments.specs.Rows.{IsSound, first_cell, quota, spent}
 use Rattle.host_departments.specs.View.{rows_of}
 use Rattle.host_departments.specs.declared.row.DepartmentRow.TheVariants.{Job}
-use Rattle.host_departments.specs.declared.said.Said.TheVariants as said
+use Rattle.host_departments.specs.declared.answer.Answer.TheVariants as answers
 use Rattle.host_departments.proofs.Keeping.{rows_long}
 use Rattle.host_departments.proofs.Places.{some_room}
 use Rattle.host_departments.proofs.Puts.{job_sound}
@@ -33,6 +33,6 @@ returns-clause-takes g c =
       place = c.jobs.result;
       jobs = c.jobs.ensures;
       room = room;
-      tries = subst (λ (n : ℕ). Tries (first_cell d + c.jobs.result) (Job c.args.job c.args.postage) (said.Assigned c.args.job d (c.args.left - n)) s c.commit.result c.commit.new.self) c.from-2.ensures
-          (subst (λ (n : ℕ). Tries (n + c.jobs.result) (Job c.args.job c.args.postage) (said.Assigned c.args.job d (c.args.left - c.from-2.result)) s c.commit.result c.commit.new.self) c.first_cell.ensures.is c.commit.ensures.tries);
+      tries = subst (λ (n : ℕ). Tries (first_cell d + c.jobs.result) (Job c.args.job c.args.postage) (answers.Assigned c.args.job d (c.args.left - n)) s c.commit.result c.commit.new.self) c.from-2.ensures
+          (subst (λ (n : ℕ). Tries (n + c.jobs.result) (Job c.args.job c.args.postage) (answers.Assigned c.args.job d (c.args.left - c.from-2.result)) s c.commit.result c.commit.new.self) c.first_cell.ensures.is c.commit.ensures.tries);
     })

@@ -1,4 +1,4 @@
-use Rattle.text_streams.proofs.Fronts.{passes}
+use Rattle.text_streams.proofs.Prefixes.{passes}
 use Rattle.text_streams.proofs.ahead.ReadAhead.pass.Goals as goal
 
 pub returns-clause-taken : goal.returns-clause-taken

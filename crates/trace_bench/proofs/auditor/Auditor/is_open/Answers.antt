@@ -12,7 +12,7 @@ by_open : (c : goal.After-is_some) → OfDevice c.in-Device.device (audit_of c.a
 by_open c = search rules
 
 by_view : (c : goal.After-is_some) → OfDevice c.in-Device.device (audit_of c.args.self.now) (λ s. c.is_some.result ≡ is_some (view_of s).next)
-by_view c = let of = by_open c in record { place = of.place; is_device = of.is_device; seat = of.seat; at = of.at; holds = of.holds ∙ sym (is_some_map _ of.seat.open) }
+by_view c = let of = by_open c in record { place = of.place; is_device = of.is_device; traced = of.traced; at = of.at; holds = of.holds ∙ sym (is_some_map _ of.traced.open) }
 
 pub returns-in-Device-clause-by_ledger : goal.returns-in-Device-clause-by_ledger
 returns-in-Device-clause-by_ledger c H sees =

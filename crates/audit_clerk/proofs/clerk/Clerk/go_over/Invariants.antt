@@ -1,5 +1,0 @@
-use Rattle.trace_bench.specs.Seeing.{IsReady, audit_of}
-use Rattle.audit_clerk.proofs.clerk.Clerk.go_over.Given as goal
-
-abbrev pub invariant-loop-count : goal.invariant-loop-count
-invariant-loop-count l = IsReady (audit_of l.self.auditor)

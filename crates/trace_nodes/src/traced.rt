@@ -1,0 +1,9 @@
+//! A node in its place, by what was told of it.
+
+/// A node, by what was told of it: its record after the commits that count, the change of its open commit, and whether it is on.
+#[derive(Drop)]
+pub struct Traced<R, X> {
+    pub record: R,
+    pub open: Option<X>,
+    pub on: bool,
+}
