@@ -1,5 +1,5 @@
 //! What judgements say of lines that were judged before.
-ghost use Rattle.bench_base.specs.Ranges.{IsWholeEvent};
+ghost use Rattle.bench_base.specs.Events.{IsWholeEvent};
 ghost use Rattle.trace_bench.specs.Seeing.{IsReady, audit_of};
 
 use audit_journal::BookFault;

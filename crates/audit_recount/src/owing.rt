@@ -1,5 +1,5 @@
 //! Goes over a run that was stopped, and writes the answers that were due from there on.
-ghost use Rattle.bench_base.specs.Ranges.{IsWholeEvent};
+ghost use Rattle.bench_base.specs.Events.{IsWholeEvent};
 ghost use Rattle.trace_bench.specs.Seeing.{IsReady, audit_of};
 
 use crate::hearing::{judged, line_of};

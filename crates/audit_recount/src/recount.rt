@@ -1,7 +1,7 @@
 //! Goes over runs that were judged once more, a line after the other, and has the book count what they report. An auditor of its own goes along: what is
 //! known of a node before and after a line is what that knows.
 ghost use Rattle.std.specs.Prelude.{IfOk};
-ghost use Rattle.bench_base.specs.Ranges.{IsWholeEvent};
+ghost use Rattle.bench_base.specs.Events.{IsWholeEvent};
 ghost use Rattle.trace_bench.specs.Seeing.{IsReady, audit_of};
 
 use crate::figures::{figures_of, owner_of, seen_by};

@@ -2,6 +2,7 @@
 ghost use Rattle.std.specs.Prelude.{◌≡◌, ◌+◌, ◌-◌, ◌^◌, min};
 
 use bench_base::events::Reply;
+use bench_base::questions::{Refusal, Report};
 use bench_base::refusals::ScanRefusal;
 
 /// How often replies came over all runs.
@@ -40,51 +41,12 @@ fn scan_refused(refusal: &ScanRefusal) -> Counted {
 
 // What is counted of a reply that was reported.
 fn told_by(reply: &Reply) -> Counted {
-    match reply {
-        Reply::Marked { again, .. } | Reply::Released { again, .. } => { Counted::Released(*again) }
-        Reply::Accepted { again, .. } => Counted::Accepted(*again),
-        Reply::Printed(_) => Counted::Printed,
-        Reply::ScanRefused(refusal) => scan_refused(refusal),
-        Reply::Day(_)
-        | Reply::Rates { .. }
-        | Reply::RatesFault
-        | Reply::RatesLength
-        | Reply::RatesToml
-        | Reply::RatesForm
-        | Reply::Made(_)
-        | Reply::Up { .. }
-        | Reply::Down(_)
-        | Reply::CutSet(_)
-        | Reply::SentRequest { .. }
-        | Reply::SentDone { .. }
-        | Reply::Status { .. }
-        | Reply::Registered(_)
-        | Reply::Opened(_)
-        | Reply::Deposited { .. }
-        | Reply::Flagged { .. }
-        | Reply::Balance { .. }
-        | Reply::Ruled { .. }
-        | Reply::Settled { .. }
-        | Reply::Applied { .. }
-        | Reply::Held(_)
-        | Reply::Ordered { .. }
-        | Reply::SentDebit { .. }
-        | Reply::PrinterFault(_)
-        | Reply::Closed(_)
-        | Reply::Trusted(_)
-        | Reply::Reconciled { .. }
-        | Reply::End
-        | Reply::NoDay
-        | Reply::NoMessage(_)
-        | Reply::OffNode(_)
-        | Reply::OnAlready(_)
-        | Reply::Power(_)
-        | Reply::Fault(_)
-        | Reply::Worn(_)
-        | Reply::Damaged(_)
-        | Reply::DevRefused { .. }
-        | Reply::CentreRefused(_)
-        | Reply::HostRefused(_) => Counted::Nothing,
+    match reply.report() {
+        Report::Mark { again, .. } | Report::Release { again, .. } => Counted::Released(again),
+        Report::Acceptance(again) => Counted::Accepted(again),
+        Report::Print(_) => Counted::Printed,
+        Report::Refusal(Refusal::Verifier(refusal)) => scan_refused(&refusal),
+        _ => Counted::Nothing,
     }
 }
 

@@ -3,7 +3,6 @@
 
 mod causes;
 mod counts;
-mod doings;
 mod incidents;
 mod jobs;
 mod kinds;
@@ -14,10 +13,9 @@ mod sends;
 
 pub use causes::{Cause, Causes};
 pub use counts::{Tally, is_given_again, one_more};
-pub use doings::{Doing, doing_of};
 pub use incidents::{Incident, Incidents, Mishap, Outcome, mishap_at};
 pub use jobs::{Job, Jobs};
-pub use kinds::entry_of;
+pub use kinds::{Doing, doing_of, entry_of};
 pub use pieces::{Piece, Pieces};
 pub use place::Place;
 pub use requests::{Ask, Ungranted};

@@ -1,5 +1,6 @@
 //! The messages of a run: which of them asks for the mark of which job.
 use bench_base::events::Reply;
+use bench_base::questions::Report;
 use std::alloc::{AllocError, Global};
 
 /// Of each message of a run, from message 0 on, the job whose mark it asks for.
@@ -10,52 +11,10 @@ pub struct Sends {
 
 // The job whose mark the message asks for, if the reply sent a message.
 fn sent_by(reply: &Reply) -> Option<Option<u32>> {
-    match reply {
-        Reply::SentDebit { job, .. } => Some(Some(*job)),
-        Reply::SentRequest { .. }
-        | Reply::SentDone { .. }
-        | Reply::Ruled { .. }
-        | Reply::Released { .. } => Some(None),
-        Reply::Day(_)
-        | Reply::Rates { .. }
-        | Reply::RatesFault
-        | Reply::RatesLength
-        | Reply::RatesToml
-        | Reply::RatesForm
-        | Reply::Made(_)
-        | Reply::Up { .. }
-        | Reply::Down(_)
-        | Reply::CutSet(_)
-        | Reply::Marked { .. }
-        | Reply::Status { .. }
-        | Reply::Registered(_)
-        | Reply::Opened(_)
-        | Reply::Deposited { .. }
-        | Reply::Flagged { .. }
-        | Reply::Balance { .. }
-        | Reply::Settled { .. }
-        | Reply::Applied { .. }
-        | Reply::Held(_)
-        | Reply::Ordered { .. }
-        | Reply::Printed(_)
-        | Reply::PrinterFault(_)
-        | Reply::Closed(_)
-        | Reply::Trusted(_)
-        | Reply::Accepted { .. }
-        | Reply::Reconciled { .. }
-        | Reply::End
-        | Reply::NoDay
-        | Reply::NoMessage(_)
-        | Reply::OffNode(_)
-        | Reply::OnAlready(_)
-        | Reply::Power(_)
-        | Reply::Fault(_)
-        | Reply::Worn(_)
-        | Reply::Damaged(_)
-        | Reply::DevRefused { .. }
-        | Reply::CentreRefused(_)
-        | Reply::HostRefused(_)
-        | Reply::ScanRefused(_) => None,
+    match reply.report() {
+        Report::Debit { job, .. } => Some(Some(job)),
+        Report::Message(_) | Report::Ruling { .. } | Report::Release { .. } => Some(None),
+        _ => None,
     }
 }
 

@@ -10,11 +10,10 @@ use Rattle.bench_base.specs.declared.events.Event.{Event}
 use Rattle.bench_base.specs.declared.events.Event.TheVariants as ev
 use Rattle.bench_base.specs.declared.events.Reply.{Reply}
 use Rattle.bench_base.specs.declared.events.Reply.TheVariants as r
-use Rattle.bench_base.specs.Events.{needs_day, day_after}
+use Rattle.bench_base.specs.Events.{needs_day, day_after, IsWholeEvent}
 use Rattle.bench_base.specs.Plans.{Plan, refuse}
 use Rattle.bench_base.specs.Replies.{on_after, tells_power, tells_fault, has_read, MayGet}
 use Rattle.bench_base.specs.Rules.{todays_rules}
-use Rattle.bench_base.specs.Ranges.{IsWholeEvent}
 use Rattle.bench_base.specs.Ledger.{Ledger}
 use Rattle.nv_model.specs.declared.nv.Nv as nv
 use Rattle.node_acts.specs.Kinds.{view_in}
@@ -34,7 +33,7 @@ use Rattle.bench_abstraction.specs.Follows.{OthersAreQuiet, quiet_by}
 use Rattle.bench_abstraction.specs.Tariff.{quote}
 use Rattle.bench_abstraction.specs.Routing.{routed, as_given}
 use Rattle.bench_abstraction.proofs.Events.{same_work}
-use Rattle.bench_abstraction.proofs.OfNone.{IsQuietAs, quiet_is, plan_day, plan_end, plan_none}
+use Rattle.bench_abstraction.proofs.Quiet.{IsQuietAs, quiet_is, plan_day, plan_end, plan_none}
 use Rattle.bench.specs.Benches.{Nodes, OfState, Of, IsReady, Stands, BenchOf}
 use Rattle.bench.specs.Outside.{Outside, ReadsRates}
 use Rattle.bench.specs.Steps.{Steps, DoesAsked, ComparesViews}

@@ -10,8 +10,7 @@ use Rattle.bench_base.specs.declared.events.Event.TheVariants as ev
 use Rattle.bench_base.specs.declared.events.Reply.{Reply}
 use Rattle.bench_base.specs.declared.events.Reply.TheVariants as r
 use Rattle.bench_base.proofs.Facts.{same_node_true}
-use Rattle.bench_base.specs.Events.{node_for, needs_day, may_commit, day_after, IsAt}
-use Rattle.bench_base.specs.Ranges.{IsWholeEvent}
+use Rattle.bench_base.specs.Events.{node_for, needs_day, may_commit, day_after, IsAt, IsWholeEvent}
 use Rattle.bench_base.specs.Replies.{tells_power, tells_fault, MayGet, MayFailAt}
 use Rattle.node_acts.specs.declared.asked.Asked.{Asked}
 use Rattle.node_acts.specs.declared.asked.Asked.TheVariants.{On, Off, Cut, Call}
@@ -80,32 +79,8 @@ scanned_by n k (Some bytes) = record { day = refl; commits = refl; leaves = λ o
 
 pub given_alike : (pool : List (List ℕ)) (e : Event) → NeedsAlike e (as_given pool e)
 given_alike pool (ev.Deliver k) = given_by k (slice_get pool k)
-given_alike pool (ev.Day t) = alike (ev.Day t)
-given_alike pool ev.Rates = alike ev.Rates
-given_alike pool (ev.Make d key) = alike (ev.Make d key)
-given_alike pool (ev.On n) = alike (ev.On n)
-given_alike pool (ev.Off n) = alike (ev.Off n)
-given_alike pool (ev.Cut n calls keep byte) = alike (ev.Cut n calls keep byte)
-given_alike pool (ev.Debit d piece postage class) = alike (ev.Debit d piece postage class)
-given_alike pool (ev.Ask d kind who amount) = alike (ev.Ask d kind who amount)
-given_alike pool (ev.Resend d) = alike (ev.Resend d)
-given_alike pool (ev.Ack d) = alike (ev.Ack d)
-given_alike pool (ev.Status d) = alike (ev.Status d)
-given_alike pool (ev.Register d origin key) = alike (ev.Register d origin key)
-given_alike pool (ev.OpenCustomer w) = alike (ev.OpenCustomer w)
-given_alike pool (ev.Deposit w receipt amount) = alike (ev.Deposit w receipt amount)
-given_alike pool (ev.Flag w suspended) = alike (ev.Flag w suspended)
-given_alike pool (ev.Balance w) = alike (ev.Balance w)
-given_alike pool (ev.Give n bytes) = alike (ev.Give n bytes)
-given_alike pool (ev.Order d piece class grams zone) = alike (ev.Order d piece class grams zone)
-given_alike pool (ev.Send j) = alike (ev.Send j)
-given_alike pool (ev.Print j) = alike (ev.Print j)
-given_alike pool (ev.Close j) = alike (ev.Close j)
-given_alike pool (ev.Trust d key) = alike (ev.Trust d key)
 given_alike pool (ev.ScanMsg scan k) = scanned_by scan k (slice_get pool k)
-given_alike pool (ev.ScanHex scan bytes) = alike (ev.ScanHex scan bytes)
-given_alike pool (ev.Reconcile d) = alike (ev.Reconcile d)
-given_alike pool ev.End = alike ev.End
+given_alike pool e = alike e
 
 -- == what the bench takes is the event that asks it ==
 

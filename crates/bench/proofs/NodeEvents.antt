@@ -11,7 +11,6 @@ use Rattle.bench_base.specs.declared.events.Event.{Event}
 use Rattle.bench_base.specs.declared.events.Reply.{Reply}
 use Rattle.bench_base.specs.declared.events.Reply.TheVariants as r
 use Rattle.bench_base.specs.Rules.{todays_rules}
-use Rattle.bench_base.specs.Ranges.{IsWholeEvent}
 use Rattle.bench_base.specs.Plans.{Plan}
 use Rattle.bench_base.specs.Ledger.{Ledger}
 use Rattle.nv_store.specs.Mounts.{Mounts}
@@ -38,6 +37,7 @@ use Rattle.bench_abstraction.proofs.Events.{same_work}
 use Rattle.bench.specs.Benches.{Nodes, OneKind, OfChange, At, IsReady, Stands, devices, centre, host, verifier, BenchOf}
 use Rattle.bench.specs.Outside.{Outside}
 use Rattle.bench_base.specs.Replies.{tells_failure}
+use Rattle.bench_base.specs.Events.{IsWholeEvent}
 use Rattle.bench.specs.Steps.{notes_in, Steps, StepsByViews, DoesAsked, ShowsLedger, HoldsImage, after_stop}
 use Rattle.bench.proofs.Events.{IsOfNode, no_day}
 use Rattle.bench.proofs.EachKind.{OthersRest}

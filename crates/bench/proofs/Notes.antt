@@ -9,11 +9,13 @@ use Rattle.bench_base.specs.declared.events.Event.{Event}
 use Rattle.bench_base.specs.declared.events.Event.TheVariants as ev
 use Rattle.bench_base.specs.declared.events.Reply.{Reply}
 use Rattle.bench_base.specs.declared.events.Reply.TheVariants as r
+use Rattle.bench_base.specs.declared.questions.Report.{Report}
+use Rattle.bench_base.specs.declared.questions.Report.TheVariants as report
 use Rattle.bench_base.specs.Ledger.{Ledger}
-use Rattle.bench_base.specs.Replies.{ReplyClass, Did, Refused, Armed, CameOn, WentOff, LostPower, Faulted, WasDamaged, PrinterFailed, RatesFailed, class_of, MayGet, Hands}
+use Rattle.bench_base.specs.Replies.{ReplyClass, Did, Refused, Armed, CameOn, WentOff, LostPower, Faulted, WasDamaged, PrinterFailed, RatesFailed, class_of, report_of, MayGet, Hands}
 use Rattle.node_acts.specs.Plans.{with_commit}
 use Rattle.node_turns.specs.declared.turn.Turn.{Turn}
-use Rattle.node_turns.specs.Adds.{Adds, AddsTold, AddsDone, LeavesOpen, Brings, Nothing, ADay, SomeRates, AMark, AMessage, AMarkInMessage, APrint, brings, is_message, names_message}
+use Rattle.node_turns.specs.Adds.{Adds, AddsTold, AddsDone, LeavesOpen, is_message, names_message}
 use Rattle.node_turns.specs.Turns.{in_order}
 use Rattle.node_turns.specs.Turns as turns
 use Rattle.bench_abstraction.specs.Messages.{sent_in, SendsNone, IsFew}
@@ -58,21 +60,23 @@ none_printed : (job : ℕ) (mark : List ℕ) (made : Option Commit) → notes_in
 none_printed job mark None = refl
 none_printed job mark (Some c) = refl
 
-done_sends : (e : Event) (b : Brings) (entries : List (Option Entry)) → AddsDone e b entries → is_message b ≡ false → notes_in entries ≡ []
-done_sends e Nothing entries adds none = ap notes_in adds.2 ∙ none_beside adds.0
-done_sends e (ADay t) entries adds none = ap notes_in adds
-done_sends e SomeRates entries adds none = ap notes_in adds.1
-done_sends e (AMark d piece mark) entries adds none = ap notes_in adds.2 ∙ none_marked d piece mark adds.0
-done_sends e (AMessage k) entries adds none = absurd (true≢false none)
-done_sends e (AMarkInMessage d piece k) entries adds none = absurd (true≢false none)
-done_sends e (APrint job) entries adds none = ap notes_in adds.1.2 ∙ none_printed job adds.0 adds.1.0
+done_sends : (e : Event) (x : Report) (entries : List (Option Entry)) → AddsDone e x entries → is_message x ≡ false → notes_in entries ≡ []
+done_sends e (report.Day t) entries adds none = ap notes_in adds
+done_sends e report.Rates entries adds none = ap notes_in adds.1
+done_sends e (report.Mark d piece again mark) entries adds none = ap notes_in adds.2 ∙ none_marked d piece mark adds.0
+done_sends e (report.Release d piece again k) entries adds none = absurd (true≢false none)
+done_sends e (report.Message k) entries adds none = absurd (true≢false none)
+done_sends e (report.Debit job k) entries adds none = absurd (true≢false none)
+done_sends e (report.Ruling verdict k) entries adds none = absurd (true≢false none)
+done_sends e (report.Print job) entries adds none = ap notes_in adds.1.2 ∙ none_printed job adds.0 adds.1.0
+done_sends e _ entries adds none = ap notes_in adds.2 ∙ none_beside adds.0
 
 open_sends : (e : Event) (m : Node) (entries : List (Option Entry)) → LeavesOpen e m entries → notes_in entries ≡ []
 open_sends e m entries (inl is) = ap notes_in is
 open_sends e m entries (inr torn) = ap notes_in torn.2
 
 told_sends : (e : Event) (reply : Reply) (t : ReplyClass) (entries : List (Option Entry)) → AddsTold e reply t entries → names_message reply ≡ false → notes_in entries ≡ []
-told_sends e reply Did entries adds none = done_sends e (brings reply) entries adds none
+told_sends e reply Did entries adds none = done_sends e (report_of reply) entries adds none
 told_sends e reply Refused entries adds none = ap notes_in adds
 told_sends e reply (Armed m) entries adds none = ap notes_in adds
 told_sends e reply (CameOn m k) entries adds none = ap notes_in adds

@@ -9,10 +9,9 @@ use Rattle.bench_base.specs.declared.events.Event.{Event}
 use Rattle.bench_base.specs.declared.events.Event.TheVariants as ev
 use Rattle.bench_base.specs.declared.events.Reply.{Reply}
 use Rattle.bench_base.specs.declared.events.Reply.TheVariants as r
-use Rattle.bench_base.specs.Events.{needs_day, node_for, day_after}
+use Rattle.bench_base.specs.Events.{needs_day, node_for, day_after, IsWholeEvent}
 use Rattle.bench_base.specs.Replies.{tells_power, tells_fault, has_read, is_refusal, MayGet}
 use Rattle.bench_base.specs.Rules.{todays_rules, editions}
-use Rattle.bench_base.specs.Ranges.{IsWholeEvent}
 use Rattle.bench_base.specs.Ledger.{Ledger, torn_of}
 use Rattle.nv_store.specs.Mounts.{Mounts}
 use Rattle.node_acts.specs.Kinds.{view_in}

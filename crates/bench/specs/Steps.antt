@@ -145,8 +145,6 @@ module _ (n : Nodes) where
 
   -- what this asks on that day was done: of a node as any view allows for which it stood; and two nodes are compared as any two views show
   abbrev pub DoesAsked : ℤ → Turn → BenchOf n → BenchOf n → Outside → Outside → OfDay → Type 0
-  DoesAsked today turn old new before now of_day.Rates = Unit {0}
-  DoesAsked today turn old new before now (of_day.NoMessage k) = Unit {0}
   DoesAsked today turn old new before now (of_day.Reconcile d) = (i : ℕ) (s : n.Devices) → d ≡ i + 1 → slice_get old.devices i ≡ Some s → ComparesViews d turn.reply old.centre s
   DoesAsked today turn old new before now (of_day.Device d asked) = (i : ℕ) (s t : n.Devices) → d ≡ i + 1 → slice_get old.devices i ≡ Some s → slice_get new.devices i ≡ Some t
       → MovesViews n.devices n.storage n.kinds.devices (Device d) d today asked turn s t
@@ -154,6 +152,7 @@ module _ (n : Nodes) where
   DoesAsked today turn old new before now (of_day.Host asked) =
       MovesViews n.host n.storage n.kinds.host Host tt today asked turn old.host new.host × PrintsViews n.host n.storage n.kinds.host Host tt today asked turn old.host before now
   DoesAsked today turn old new before now (of_day.Verifier asked) = MovesViews n.verifier n.storage n.kinds.verifier Verifier tt today asked turn old.verifier new.verifier
+  DoesAsked today turn old new before now _ = Unit {0}
 
   -- By what the storages show, whether or not a history leads to it: the event does what any view allows for which its node stood,
   -- and compares what any two views show; one that commits nothing writes nothing; and damage is told if and only if the storage

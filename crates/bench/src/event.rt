@@ -1,7 +1,7 @@
 //! One event.
 ghost use Rattle.std.specs.Prelude.{◌≡◌, ◌≢◌, ◌<◌, ℕ, List, [], ◌∷◌, length, IfOk, OnErr};
 ghost use Rattle.bench_base.specs.declared.events.Event.TheVariants as ev;
-ghost use Rattle.bench_base.specs.Ranges.{IsWholeEvent};
+ghost use Rattle.bench_base.specs.Events.{IsWholeEvent};
 ghost use Rattle.node_turns.specs.declared.turn.Turn.{Turn};
 ghost use Rattle.node_turns.specs.Printing.{Printer, printer_of};
 ghost use Rattle.node_turns.specs.Turns as turns;

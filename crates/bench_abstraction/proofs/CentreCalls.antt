@@ -14,10 +14,11 @@ use Rattle.bench_base.specs.Rules.{todays_rules}
 use Rattle.bench_base.specs.Nodes.{node_of}
 use Rattle.bench_base.specs.Plans.{Plan}
 use Rattle.bench_base.specs.Table.{IsBytes}
-use Rattle.bench_base.specs.Ranges.{IsWholeEvent, IsDevice, IsCustomer}
+use Rattle.bench_base.specs.Ranges.{IsDevice, IsCustomer}
 use Rattle.bench_base.specs.Cells.{place_of}
 use Rattle.bench_base.specs.Cells as cells
 use Rattle.bench_base.specs.Ledger.{Ledger, day_in, count_of, counted, message}
+use Rattle.bench_base.specs.Events.{IsWholeEvent}
 use Rattle.node_acts.specs.declared.said.Said.{Said}
 use Rattle.node_acts.specs.Plans.{IsOfNode}
 use Rattle.node_acts.specs.Kinds.{node_plan, OfCall}

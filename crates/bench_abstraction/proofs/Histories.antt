@@ -7,8 +7,8 @@ use Rattle.bench_base.specs.declared.events.Event.{Event}
 use Rattle.bench_base.specs.declared.events.Reply.{Reply}
 use Rattle.bench_base.specs.Rules.{todays_rules}
 use Rattle.bench_base.specs.Plans.{Plan}
-use Rattle.bench_base.specs.Ranges.{IsWholeEvent}
 use Rattle.bench_base.specs.Ledger.{Ledger, day_in, torn_of, counted}
+use Rattle.bench_base.specs.Events.{IsWholeEvent}
 use Rattle.node_acts.specs.Views.{Counting}
 use Rattle.node_acts.specs.Kinds.{view_in}
 use Rattle.node_acts.specs.Plans.{Fails, IsOtherUp, MayReply, after}

@@ -11,9 +11,10 @@ use Rattle.bench_base.specs.declared.events.Reply.TheVariants as r
 use Rattle.bench_base.specs.Rules.{todays_rules}
 use Rattle.bench_base.specs.Nodes.{node_of}
 use Rattle.bench_base.specs.Plans.{Plan}
-use Rattle.bench_base.specs.Ranges.{IsWholeEvent, IsDevice}
+use Rattle.bench_base.specs.Ranges.{IsDevice}
 use Rattle.bench_base.specs.Cells.{OfJob, place_of}
 use Rattle.bench_base.specs.Ledger.{Ledger, day_in, count_of, counted, message}
+use Rattle.bench_base.specs.Events.{IsWholeEvent}
 use Rattle.node_acts.specs.declared.act.Act.TheVariants.{Tell}
 use Rattle.node_acts.specs.declared.asked.Asked.{Asked}
 use Rattle.node_acts.specs.declared.asked.Asked.TheVariants.{Call}

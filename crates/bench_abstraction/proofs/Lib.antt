@@ -13,11 +13,10 @@ mod Genuine
 mod Histories
 pub mod HostCalls
 mod HostCommits
-pub mod OfNone
 pub mod Plans
-mod Quiet
+pub mod Quiet
 pub mod RatesPlans
-mod Shown
+pub mod Shown
 pub mod Steps
 pub mod Sent
 mod VerifierCalls

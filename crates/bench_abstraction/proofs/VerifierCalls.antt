@@ -10,9 +10,10 @@ use Rattle.bench_base.specs.declared.events.Reply.TheVariants as r
 use Rattle.bench_base.specs.Rules.{todays_rules}
 use Rattle.bench_base.specs.Plans.{Plan}
 use Rattle.bench_base.specs.Table.{IsBytes}
-use Rattle.bench_base.specs.Ranges.{IsWholeEvent, IsDevice, IsKey, IsCount}
+use Rattle.bench_base.specs.Ranges.{IsDevice, IsKey, IsCount}
 use Rattle.bench_base.specs.Cells as cells
 use Rattle.bench_base.specs.Ledger.{Ledger, day_in, count_of, counted}
+use Rattle.bench_base.specs.Events.{IsWholeEvent}
 use Rattle.node_acts.specs.declared.asked.Asked.{Asked}
 use Rattle.node_acts.specs.declared.asked.Asked.TheVariants.{Call}
 use Rattle.node_acts.specs.declared.said.Said.{Said}

@@ -1,6 +1,7 @@
 -- Small facts that all subjects share: of the variant that an Option or a Result has, of a test, of the first that is found, and of nodes and versions.
 use Rattle.std.proofs.Common.{◌≡◌, ◌≢◌, ◌⊎◌, inl, inr, ℕ, ◌+◌, ◌≤◌, Bool, true, false, cond, List, ◌++◌, take, drop, take-append-drop, drop-drop, Option, Some, None, IsSome, IfNone, Result, Ok, Err, refl, sym, ap, ◌∙◌, ⊎_elim, true≢false, arith}
 use Rattle.std.specs.Prelude.{◌==◌, ◌&&◌, ◌↔◌, IsTrue}
+pub use borrow.Author.Gap.{read_sfits}
 use Rattle.std.proofs.lemmas.Bool.{eqb-true, eq-eqb, cases_Bool}
 use Rattle.std.proofs.lemmas.Bool.Decides.{nat_tests}
 use Rattle.bench_base.specs.declared.words.Kind.{Kind}

@@ -1,17 +1,12 @@
--- What an event needs, and what it may do: a row for every event.
-use Rattle.std.specs.Prelude.{◌≡◌, ℕ, ℤ, Bool, true, false, List, Option, Some, None}
+-- What an event needs, what it may do, and in which ranges its numbers lie: two tables with a row for every event.
+use Rattle.std.specs.Prelude.{◌≡◌, ℕ, ℤ, ◌≤◌, ◌<◌, ◌^◌, Bool, true, false, Option, Some, None}
 use Rattle.bench_base.specs.declared.words.Node.{Node}
 use Rattle.bench_base.specs.declared.words.Node.TheVariants.{Device, Centre, Host, Verifier}
 use Rattle.bench_base.specs.declared.events.Event.{Event}
 use Rattle.bench_base.specs.declared.events.Event.TheVariants as ev
-
--- bytes from outside
-pub data Brought : Type 0 where
-  Nothing : Brought
-  -- they are handed to a node
-  Handed : Node → List ℕ → Brought
-  -- they are scanned
-  Scanned : List ℕ → Brought
+use Rattle.bench_base.specs.declared.questions.Brought.{Brought}
+use Rattle.bench_base.specs.declared.questions.Brought.TheVariants.{Nothing, Handed, Scanned}
+use Rattle.bench_base.specs.Ranges.{IsDevice, IsCustomer, IsDay, IsWord, IsKey, IsNode, IsAsk, IsGiven, TakesBytes}
 
 -- the message of the run that an event is about
 pub data About : Type 0 where
@@ -143,3 +138,35 @@ day_after e today = set_or (needs e).sets today
 abbrev pub IsAt : Option Node → Node → Type 0
 IsAt None n = Unit {0}
 IsAt (Some m) n = m ≡ n
+
+-- == the ranges of its numbers ==
+
+-- an event is whole where its numbers lie in the ranges of the script
+abbrev pub IsWholeEvent : Event → Type 0
+IsWholeEvent (ev.Day t) = IsDay t
+IsWholeEvent ev.Rates = Unit {0}
+IsWholeEvent (ev.Make d key) = IsDevice d × IsKey key
+IsWholeEvent (ev.On n) = IsNode n
+IsWholeEvent (ev.Off n) = IsNode n
+IsWholeEvent (ev.Cut n calls keep byte) = IsNode n × IsWord calls × IsWord keep × (byte < 2 ^ 8)
+IsWholeEvent (ev.Debit d piece postage class) = IsDevice d × IsWord piece × IsWord postage × (class < 2 ^ 16)
+IsWholeEvent (ev.Ask d kind customer amount) = IsDevice d × IsAsk kind customer amount
+IsWholeEvent (ev.Resend d) = IsDevice d
+IsWholeEvent (ev.Ack d) = IsDevice d
+IsWholeEvent (ev.Status d) = IsDevice d
+IsWholeEvent (ev.Register d origin key) = IsDevice d × IsWord origin × IsKey key
+IsWholeEvent (ev.OpenCustomer c) = IsCustomer c
+IsWholeEvent (ev.Deposit c receipt amount) = IsCustomer c × IsWord receipt × IsWord amount
+IsWholeEvent (ev.Flag c suspended) = IsCustomer c
+IsWholeEvent (ev.Balance c) = IsCustomer c
+IsWholeEvent (ev.Deliver k) = IsWord k
+IsWholeEvent (ev.Give n bytes) = TakesBytes n × IsGiven bytes
+IsWholeEvent (ev.Order d piece class grams zone) = IsDevice d × IsWord piece × (class < 2 ^ 16) × IsWord grams × IsWord zone
+IsWholeEvent (ev.Send j) = IsWord j
+IsWholeEvent (ev.Print j) = IsWord j
+IsWholeEvent (ev.Close j) = IsWord j
+IsWholeEvent (ev.Trust d key) = IsDevice d × IsKey key
+IsWholeEvent (ev.ScanMsg scan k) = (1 ≤ scan) × IsWord scan × IsWord k
+IsWholeEvent (ev.ScanHex scan bytes) = (1 ≤ scan) × IsWord scan × IsGiven bytes
+IsWholeEvent (ev.Reconcile d) = IsDevice d
+IsWholeEvent ev.End = Unit {0}

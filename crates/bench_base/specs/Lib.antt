@@ -5,6 +5,7 @@ pub mod Kinds
 pub mod Ledger
 pub mod Memory
 pub mod Nodes
+pub mod Questions
 pub mod Ranges
 pub mod Rules
 pub mod Scans

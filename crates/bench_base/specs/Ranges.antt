@@ -1,4 +1,4 @@
--- The ranges of numbers: of the small types, of the parts of a commit, and of the events that a script line reads as.
+-- The ranges of numbers: of the small types, of the parts of a commit, and of what an event asks or brings.
 use Rattle.std.specs.Prelude.{◌≡◌, ℕ, ℤ, pos, ◌<◌, ◌≤◌, ◌≤ℤ◌, ◌^◌, List, length}
 use Rattle.bench_base.specs.declared.words.Kind.{Kind}
 use Rattle.bench_base.specs.declared.words.Kind.TheVariants.{Enrol, Reset}
@@ -6,8 +6,6 @@ use Rattle.bench_base.specs.declared.words.Node.{Node}
 use Rattle.bench_base.specs.declared.words.Node.TheVariants.{Device, Centre, Host, Verifier}
 use Rattle.bench_base.specs.declared.ledger.Commit.{Commit}
 use Rattle.bench_base.specs.declared.ledger.Commit.TheVariants.{Made, Asked, Applied, Debited, Registered, Opened, Deposited, Flagged, Ruled, Settled, Ordered, Held, Began, Closed, Trusted, Accepted}
-use Rattle.bench_base.specs.declared.events.Event.{Event}
-use Rattle.bench_base.specs.declared.events.Event.TheVariants as ev
 use Rattle.bench_base.specs.Table.{IsBytes}
 
 -- a device's number is 1 to 8
@@ -86,33 +84,3 @@ TakesBytes (Device d) = IsDevice d
 TakesBytes Centre = Unit {0}
 TakesBytes Host = Unit {0}
 TakesBytes Verifier = ⊥
-
--- an event is whole where its numbers lie in the ranges of the script
-abbrev pub IsWholeEvent : Event → Type 0
-IsWholeEvent (ev.Day t) = IsDay t
-IsWholeEvent ev.Rates = Unit {0}
-IsWholeEvent (ev.Make d key) = IsDevice d × IsKey key
-IsWholeEvent (ev.On n) = IsNode n
-IsWholeEvent (ev.Off n) = IsNode n
-IsWholeEvent (ev.Cut n calls keep byte) = IsNode n × IsWord calls × IsWord keep × (byte < 2 ^ 8)
-IsWholeEvent (ev.Debit d piece postage class) = IsDevice d × IsWord piece × IsWord postage × (class < 2 ^ 16)
-IsWholeEvent (ev.Ask d kind customer amount) = IsDevice d × IsAsk kind customer amount
-IsWholeEvent (ev.Resend d) = IsDevice d
-IsWholeEvent (ev.Ack d) = IsDevice d
-IsWholeEvent (ev.Status d) = IsDevice d
-IsWholeEvent (ev.Register d origin key) = IsDevice d × IsWord origin × IsKey key
-IsWholeEvent (ev.OpenCustomer c) = IsCustomer c
-IsWholeEvent (ev.Deposit c receipt amount) = IsCustomer c × IsWord receipt × IsWord amount
-IsWholeEvent (ev.Flag c suspended) = IsCustomer c
-IsWholeEvent (ev.Balance c) = IsCustomer c
-IsWholeEvent (ev.Deliver k) = IsWord k
-IsWholeEvent (ev.Give n bytes) = TakesBytes n × IsGiven bytes
-IsWholeEvent (ev.Order d piece class grams zone) = IsDevice d × IsWord piece × (class < 2 ^ 16) × IsWord grams × IsWord zone
-IsWholeEvent (ev.Send j) = IsWord j
-IsWholeEvent (ev.Print j) = IsWord j
-IsWholeEvent (ev.Close j) = IsWord j
-IsWholeEvent (ev.Trust d key) = IsDevice d × IsKey key
-IsWholeEvent (ev.ScanMsg scan k) = (1 ≤ scan) × IsWord scan × IsWord k
-IsWholeEvent (ev.ScanHex scan bytes) = (1 ≤ scan) × IsWord scan × IsGiven bytes
-IsWholeEvent (ev.Reconcile d) = IsDevice d
-IsWholeEvent ev.End = Unit {0}

@@ -1,4 +1,4 @@
--- What each reply reports, and which events may get it: two tables with a row for every reply.
+-- What each reply tells of, what it reports besides, and which events may get it: three tables with a row for every reply.
 use Rattle.std.specs.Prelude.{◌≡◌, ◌≢◌, ◌⊎◌, ◌||◌, ℕ, Bool, true, false, List, Option, Some, None, is_some}
 use Rattle.bench_base.specs.declared.words.Kind.{Kind}
 use Rattle.bench_base.specs.declared.words.Node.{Node}
@@ -7,6 +7,9 @@ use Rattle.bench_base.specs.declared.events.Event.{Event}
 use Rattle.bench_base.specs.declared.events.Event.TheVariants as ev
 use Rattle.bench_base.specs.declared.events.Reply.{Reply}
 use Rattle.bench_base.specs.declared.events.Reply.TheVariants as r
+use Rattle.bench_base.specs.declared.questions.Refusal.TheVariants.{Device as OfDevice, Centre as OfCentre, Host as OfHost, Verifier as OfVerifier}
+use Rattle.bench_base.specs.declared.questions.Report.{Report}
+use Rattle.bench_base.specs.declared.questions.Report.TheVariants as report
 use Rattle.bench_base.specs.Nodes.{same_node}
 use Rattle.bench_base.specs.Events.{node_for, needs_day, needs_on, may_commit, IsAt}
 
@@ -78,6 +81,55 @@ class_of (r.DevRefused d why) = Refused
 class_of (r.CentreRefused why) = Refused
 class_of (r.HostRefused why) = Refused
 class_of (r.ScanRefused why) = Refused
+
+-- == what it reports, as far as anyone looks for it ==
+
+abbrev pub report_of : Reply → Report
+report_of (r.Day t) = report.Day t
+report_of (r.Rates classes zones) = report.Rates
+report_of r.RatesFault = report.Nothing
+report_of r.RatesLength = report.Nothing
+report_of r.RatesToml = report.Nothing
+report_of r.RatesForm = report.Nothing
+report_of (r.Made d) = report.Nothing
+report_of (r.Up n k) = report.Nothing
+report_of (r.Down n) = report.Nothing
+report_of (r.CutSet n) = report.Nothing
+report_of (r.Marked d piece again mark) = report.Mark d piece again mark
+report_of (r.SentRequest d number message) = report.Message message
+report_of (r.SentDone d number message) = report.Message message
+report_of (r.Status d shown) = report.Nothing
+report_of (r.Registered d) = report.Nothing
+report_of (r.Opened w) = report.Nothing
+report_of (r.Deposited w receipt again total) = report.Nothing
+report_of (r.Flagged w suspended) = report.Nothing
+report_of (r.Balance w left) = report.Nothing
+report_of (r.Ruled d number verdict again message) = report.Ruling verdict message
+report_of (r.Settled d number again) = report.Nothing
+report_of (r.Applied d number verdict) = report.Verdict verdict
+report_of (r.Released d piece again message) = report.Release d piece again message
+report_of (r.Held job) = report.Nothing
+report_of (r.Ordered job postage) = report.Nothing
+report_of (r.SentDebit job message) = report.Debit job message
+report_of (r.Printed job) = report.Print job
+report_of (r.PrinterFault job) = report.Nothing
+report_of (r.Closed job) = report.Nothing
+report_of (r.Trusted d) = report.Nothing
+report_of (r.Accepted d piece scan again) = report.Acceptance again
+report_of (r.Reconciled d shown booked under_way) = report.Nothing
+report_of r.End = report.Nothing
+report_of r.NoDay = report.Nothing
+report_of (r.NoMessage k) = report.Nothing
+report_of (r.OffNode n) = report.Nothing
+report_of (r.OnAlready n) = report.Nothing
+report_of (r.Power n) = report.Power n
+report_of (r.Fault n) = report.Fault n
+report_of (r.Worn n) = report.Nothing
+report_of (r.Damaged n) = report.Damage n
+report_of (r.DevRefused d why) = report.Refusal (OfDevice why)
+report_of (r.CentreRefused why) = report.Refusal (OfCentre why)
+report_of (r.HostRefused why) = report.Refusal (OfHost why)
+report_of (r.ScanRefused why) = report.Refusal (OfVerifier why)
 
 -- == what a reply tells of ==
 

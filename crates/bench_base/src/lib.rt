@@ -7,6 +7,7 @@ pub mod fields;
 pub mod ledger;
 pub mod memory;
 pub mod numbers;
+pub mod questions;
 pub mod refusals;
 pub mod sizes;
 pub mod stream;

@@ -1,7 +1,6 @@
 //! What the centre does with a message that it takes, decided by its rows alone. Amounts are in mills.
 ghost use Rattle.std.specs.Prelude.{◌≡◌, ◌+◌, false, Ok, Some};
 ghost use Rattle.psd_wire.specs.declared.message.Message.TheVariants as m;
-ghost use Rattle.psd_wire.specs.Codes.{has_code};
 ghost use Rattle.psd_wire.specs.Grammar.{IsWhole, read, spell};
 ghost use Rattle.ledger_terms.specs.Rulings as rulings;
 ghost use Rattle.centre_ledger.specs.Acts as act_of;
@@ -25,7 +24,7 @@ use bench_base::refusals::{CentreRefusal, Unread};
 use bench_base::words::{Kind, Verdict};
 use hmac_core::ReadyKey;
 use node_acts::Act;
-use psd_wire::{DoneMsg, Message, Request, code_matches_by, read_message};
+use psd_wire::{DoneMsg, Message, Request, is_own_code, read_message};
 
 /// What became of a message that the centre took.
 #[derive(Clone, Copy)]
@@ -44,12 +43,6 @@ pub enum CentreAnswer {
         number: u32,
         again: bool,
     },
-}
-
-fn is_own_code(bytes: &[u8], key: &ReadyKey) -> bool
-    ensures { result ≡ has_code key.now bytes.now }
-{
-    code_matches_by(bytes, key)
 }
 
 // The customer who pays: the one asked for at an enrolment, otherwise the device's own.

@@ -25,7 +25,7 @@ use Rattle.centre_statement.specs.Movements.{OpenedAt, movement_of, movements}
 use Rattle.centre_statement.specs.Watching.{one_more, settled_at, watched}
 use Rattle.centre_statement.specs.declared.change.Change.{Change}
 use Rattle.centre_statement.specs.declared.watch.Watch.{Watch}
-use Rattle.centre_statement.proofs.Calm.{IsCalm}
+use Rattle.scan_laws.proofs.Tells.{IsCalm}
 
 -- == what goes together ==
 

@@ -2,7 +2,6 @@ pub mod Kept
 pub mod Balances
 pub mod Following
 pub mod Funds
-pub mod Calm
 pub mod Counting
 pub mod Turns
 pub mod Asking

@@ -2,6 +2,7 @@
 use Rattle.std.proofs.Common.{◌≡◌, ◌≢◌, ◌⊎◌, inl, inr, ℕ, Bool, true, false, true≢false, arith, List, [], ◌∷◌, ◌++◌, Option, Some, None, refl, sym, ap, subst, ◌∙◌}
 use Rattle.std.specs.List.{AllByRecursion}
 use Rattle.std.specs.Prelude.{codes}
+use Rattle.script_text.specs.Texts.{IsWholeReply}
 use Rattle.bench_base.specs.declared.events.Event.{Event}
 use Rattle.bench_base.specs.declared.events.Event.TheVariants as ev
 use Rattle.bench_base.specs.declared.events.Reply.{Reply}
@@ -17,7 +18,6 @@ use Rattle.bench_base.specs.Replies.{class_of}
 use Rattle.node_acts.specs.Plans.{after}
 use Rattle.node_turns.specs.declared.turn.Turn.{Turn}
 use Rattle.node_turns.specs.Turns.{in_order}
-use Rattle.script_text.specs.ReplyRanges.{IsWholeReply}
 use Rattle.line_runs.specs.Trace.{Reads}
 use Rattle.line_extensions.specs.Trace.{StepRecord, Skipped, Did}
 use Rattle.line_extensions.specs.Desks.{World, world, Asks, Does, DidOwn, side_lines}

@@ -15,9 +15,10 @@ use Rattle.node_acts.specs.Plans.{with_commit, with_torn, after, after_told, Fai
 use Rattle.node_turns.specs.Turns.{in_order}
 use Rattle.ledger_moves.specs.Moves.{Moves, OtherUp, plan}
 use Rattle.ledger_moves.specs.Tariffs.{Tariff}
+use Rattle.scan_laws.proofs.Tells.{IsCalm, AreCalm, ByTold, ShowsItsCount}
+use Rattle.scan_laws.proofs.Plans.{plan_says}
 use Rattle.centre_statement.specs.Desk.{View, seen_entry, seen}
 use Rattle.centre_statement.specs.Movements.{OpenedAt}
-use Rattle.centre_statement.proofs.Calm.{IsCalm, AreCalm, ByTold, ShowsItsCount, Clean, plan_calm}
 use Rattle.centre_statement.proofs.Counting.{GoesWith, Sound, ShowsCount, calm_entry, commit_entry, torn_entry, up_entry}
 
 -- == the entries of a turn ==
@@ -80,11 +81,11 @@ weaker P Q more (WasDamaged m) told by = by
 weaker P Q more (PrinterFailed j) told by = by
 weaker P Q more RatesFailed told by = by
 
-module _ (H : Ledger) (p : Plan) (clean : Clean H p) where
+module _ (H : Ledger) (p : Plan) (told : ByTold (ShowsItsCount H) (class_of p.reply) p.after) where
   -- the answer with one commit more
   other_up : (reply : Reply) → OtherUp p.reply reply H → ByTold (ShowsCount H) (class_of reply) p.after
   other_up reply other =
-      let count : other.count ≡ count_of other.node (counted H) = subst (λ (x : Reply). ByTold (ShowsItsCount H) (class_of x) p.after) other.answer_is clean.told in
+      let count : other.count ≡ count_of other.node (counted H) = subst (λ (x : Reply). ByTold (ShowsItsCount H) (class_of x) p.after) other.answer_is told in
       let shows : ShowsCount H other.node (other.count + 1) = inr (ap (λ (k : ℕ). k + 1) count, other.torn) in
       subst (λ (x : Reply). ByTold (ShowsCount H) (class_of x) p.after) (sym other.more) shows
 
@@ -97,9 +98,9 @@ module _ (H : Ledger) (p : Plan) (clean : Clean H p) where
 pub moves_told : (τ : Tariff) (H : Ledger) (x : Event) (text : List ℕ) (reply : Reply) → Moves τ todays_rules H x text reply → ByTold (ShowsCount H) (class_of reply) (plan τ todays_rules H x text).after
 moves_told τ H x text reply (whole, inl is) =
     subst (λ (y : Reply). ByTold (ShowsCount H) (class_of y) (plan τ todays_rules H x text).after) (sym is)
-    (weaker (ShowsItsCount H) (ShowsCount H) (λ m k same. inl same) (class_of (plan τ todays_rules H x text).reply) (plan τ todays_rules H x text).after (plan_calm H τ x text).told)
-moves_told τ H x text reply (whole, inr (inl other)) = other_up H (plan τ todays_rules H x text) (plan_calm H τ x text) reply other
-moves_told τ H x text reply (whole, inr (inr (inl failed))) = fails H (plan τ todays_rules H x text) (plan_calm H τ x text) (class_of reply) failed
+    (weaker (ShowsItsCount H) (ShowsCount H) (λ m k same. inl same) (class_of (plan τ todays_rules H x text).reply) (plan τ todays_rules H x text).after (plan_says H τ x text).told)
+moves_told τ H x text reply (whole, inr (inl other)) = other_up H (plan τ todays_rules H x text) (plan_says H τ x text).told reply other
+moves_told τ H x text reply (whole, inr (inr (inl failed))) = fails H (plan τ todays_rules H x text) (plan_says H τ x text).told (class_of reply) failed
 moves_told τ H x text reply (whole, inr (inr (inr unread))) = subst (λ (y : Reply). ByTold (ShowsCount H) (class_of y) (plan τ todays_rules H x text).after) (sym unread.reply_is) tt
 
 -- WHAT THE DESK SEES OF A TURN GOES WITH THE LEDGER AFTER IT

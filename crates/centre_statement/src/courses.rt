@@ -8,7 +8,6 @@ ghost use Rattle.std.specs.Vec.{vec_capacity};
 ghost use Rattle.centre_statement.specs.Texts.{said_texts};
 
 use crate::answer::Answer;
-use crate::balance::balance_in;
 use crate::desk::{MOST_MOVEMENTS, StatementDesk};
 use crate::lines::OwnLine;
 use bench_base::events::{Event, Reply};
@@ -142,7 +141,7 @@ impl StatementDesk {
         requires opening { self.old.said ≡ Answer.Opening customer }
         ensures { ByBalance customer reply.now (opened customer (view_of self.old)) (view_of self.old) (view_of self.new) }
     {
-        match balance_in(reply, customer) {
+        match reply.balance_of(customer) {
             Some(balance) => self.open_at(customer, balance),
             None => self.say(Answer::Balance(*reply)),
         }
@@ -155,7 +154,7 @@ impl StatementDesk {
             self.say(Answer::Balance(*reply));
             return;
         };
-        match balance_in(reply, customer) {
+        match reply.balance_of(customer) {
             Some(balance) => self.close_at(balance),
             None => self.say(Answer::Balance(*reply)),
         }

@@ -2,7 +2,6 @@
 #![tactic(auto)]
 
 mod answer;
-mod balance;
 mod change;
 mod courses;
 mod desk;

@@ -1,8 +1,9 @@
 -- The bytes of a debit that is given.
 use Rattle.std.proofs.Common.{ℕ, zero, suc, ◌%◌, ◌^◌, ◌<◌, List, [], ◌∷◌, replicate, arith}
 use Rattle.std.specs.Int.{byte_at, bytes_high_first}
-use Rattle.bench_base.specs.Ranges.{IsWord, IsWholeEvent}
+use Rattle.bench_base.specs.Ranges.{IsWord}
 use Rattle.bench_base.specs.Table.{Size, One, Two, Four, Five, Eight, IsNumber, IsBytes, Fit, spelled, row}
+use Rattle.bench_base.specs.Events.{IsWholeEvent}
 use Rattle.bench_base.proofs.Tables.{IsBytes-append, length_row}
 use Rattle.psd_wire.specs.declared.message.Message.TheVariants as m
 use Rattle.psd_wire.specs.Grammar.{body, spell, debit_table, debit_values}

@@ -1,7 +1,8 @@
 -- What holds of each generated event.
 use Rattle.std.proofs.Common.{ℕ, zero, suc, ◌+◌, ◌*◌, ◌%◌, ◌<◌, ◌≤◌, List, [], ◌∷◌, ◌++◌, length, refl, arith, length-append, if◌then◌else◌, ◌==◌, rules, Bool, true, false}
 use Rattle.std.specs.List.{AllByRecursion}
-use Rattle.bench_base.specs.Ranges.{IsWord, IsKey, IsWholeEvent}
+use Rattle.bench_base.specs.Ranges.{IsWord, IsKey}
+use Rattle.bench_base.specs.Events.{IsWholeEvent}
 use Rattle.bench_base.specs.declared.events.Event.{Event}
 use Rattle.generator.specs.declared.turns.Counts.{Counts}
 use Rattle.generator.specs.declared.turns.Turn.{Turn}

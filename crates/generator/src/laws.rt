@@ -1,7 +1,8 @@
 //! Laws of the generated events: each is the contract of a call that does nothing.
 ghost use Rattle.std.specs.Prelude.{ℕ, ◌+◌, ◌*◌, ◌≤◌, length};
 ghost use Rattle.std.specs.List.{AllByRecursion};
-ghost use Rattle.bench_base.specs.Ranges.{IsWord, IsWholeEvent};
+ghost use Rattle.bench_base.specs.Ranges.{IsWord};
+ghost use Rattle.bench_base.specs.Events.{IsWholeEvent};
 ghost use Rattle.generator.specs.Events.{generated};
 ghost use Rattle.generator.specs.Given.{GivesOnlyDebits, NeedsNoStream};
 

@@ -46,31 +46,7 @@ scan_no_print scan k j (Some bytes) is = cc
 print_given : (pool : List (List ℕ)) (j : ℕ) (e : Event) → as_given pool e ≡ ev.Print j → e ≡ ev.Print j
 print_given pool j (ev.Deliver k) is = deliver_no_print k j (slice_get pool k) is
 print_given pool j (ev.ScanMsg scan k) is = scan_no_print scan k j (slice_get pool k) is
-print_given pool j (ev.Day t) is = cc
-print_given pool j ev.Rates is = cc
-print_given pool j (ev.Make d key) is = cc
-print_given pool j (ev.On n) is = cc
-print_given pool j (ev.Off n) is = cc
-print_given pool j (ev.Cut n calls keep byte) is = cc
-print_given pool j (ev.Debit d piece postage class) is = cc
-print_given pool j (ev.Ask d kind who amount) is = cc
-print_given pool j (ev.Resend d) is = cc
-print_given pool j (ev.Ack d) is = cc
-print_given pool j (ev.Status d) is = cc
-print_given pool j (ev.Register d origin key) is = cc
-print_given pool j (ev.OpenCustomer w) is = cc
-print_given pool j (ev.Deposit w receipt amount) is = cc
-print_given pool j (ev.Flag w suspended) is = cc
-print_given pool j (ev.Balance w) is = cc
-print_given pool j (ev.Give n bytes) is = cc
-print_given pool j (ev.Order d piece class grams zone) is = cc
-print_given pool j (ev.Send i) is = cc
-print_given pool j (ev.Print i) is = is
-print_given pool j (ev.Close i) is = cc
-print_given pool j (ev.Trust d key) is = cc
-print_given pool j (ev.ScanHex scan bytes) is = cc
-print_given pool j (ev.Reconcile d) is = cc
-print_given pool j ev.End is = cc
+print_given pool j _ is = is
 
 -- a step that tells of printing is one of `print`
 pub prints_by : (n : Nodes) (s t : SceneOf n) (d : StepRecord) (turn : Turn) → StepsBy n s t d turn → (j : ℕ) → d.reply ≡ r.Printed j → d.event ≡ ev.Print j

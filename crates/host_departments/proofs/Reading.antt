@@ -4,8 +4,7 @@ use Rattle.std.specs.Prelude.{codes, decimal, IfNone}
 use Rattle.bench_base.specs.Ranges.{IsWord}
 use Rattle.bench_base.specs.declared.events.Event.TheVariants as ev
 use Rattle.script_words.specs.Words.{words_in}
-use Rattle.script_text.proofs.EventWords.{words_spelled}
-use Rattle.script_text.proofs.EventsBack.{one_event_of}
+use Rattle.script_text.proofs.EachEvent.{words_spelled, one_event_of}
 use Rattle.line_extensions.specs.Events.{IsLineOf}
 use Rattle.host_departments.specs.DepartmentLines.{IsBehind, IsDepartmentLine}
 use Rattle.line_extensions.specs.Wants.{IsEvent}

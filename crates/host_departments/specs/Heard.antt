@@ -1,16 +1,12 @@
 -- What is heard of the step that sends the message of a job.
 use Rattle.std.specs.Prelude.{◌≡◌, ◌≤◌, ℕ, List, Option, Some, None, Result, Ok, Err}
+use Rattle.bench_base.specs.Questions.{IsSentDebit}
 use Rattle.bench_base.specs.Ranges.{IsPostage}
 use Rattle.bench_base.specs.declared.events.Reply.{Reply}
-use Rattle.bench_base.specs.declared.events.Reply.TheVariants as r
 use Rattle.bench_base.specs.declared.refusals.Unread.{Unread}
 use Rattle.psd_wire.specs.Grammar.{read}
 use Rattle.psd_wire.specs.declared.message.Message.{Message}
 use Rattle.psd_wire.specs.declared.message.Message.TheVariants as m
-
--- the message for a job was sent
-abbrev pub IsSentDebit : Reply → Type 0
-IsSentDebit reply = (job message : ℕ) × (reply ≡ r.SentDebit job message)
 
 -- the postage in a message that asks a device for a mark
 abbrev pub debit_postage : Result Message Unread → Option ℕ

@@ -1,8 +1,8 @@
 //! What is heard of a step: its reply, and the message that it sent.
-ghost use Rattle.std.specs.Prelude.{◌≡◌, ◌↔◌, ℕ, IsTrue, IfSome, IfNone};
+ghost use Rattle.std.specs.Prelude.{◌≡◌, ℕ, IfSome, IfNone};
 ghost use Rattle.node_turns.specs.Turns.{sent_in};
 ghost use Rattle.psd_wire.specs.Grammar.{read};
-ghost use Rattle.host_departments.specs.Heard.{IsSentDebit, IsTaken, debit_postage};
+ghost use Rattle.host_departments.specs.Heard.{IsTaken, debit_postage};
 
 use crate::row::MOST_POSTAGE;
 use bench_base::bytes::Note;
@@ -53,59 +53,6 @@ impl Hear for Heard {
     }
 }
 
-// Whether a reply says that the message for a job was sent.
-fn is_sent_debit(reply: &Reply) -> bool
-    ensures { IsTrue result ↔ IsSentDebit reply.now }
-{
-    match reply {
-        Reply::SentDebit { .. } => true,
-        Reply::DevRefused { .. }
-        | Reply::CentreRefused(_)
-        | Reply::HostRefused(_)
-        | Reply::ScanRefused(_)
-        | Reply::Power(_)
-        | Reply::Fault(_)
-        | Reply::Released { .. }
-        | Reply::Day(_)
-        | Reply::Rates { .. }
-        | Reply::RatesFault
-        | Reply::RatesLength
-        | Reply::RatesToml
-        | Reply::RatesForm
-        | Reply::Made(_)
-        | Reply::Up { .. }
-        | Reply::Down(_)
-        | Reply::CutSet(_)
-        | Reply::Marked { .. }
-        | Reply::SentRequest { .. }
-        | Reply::SentDone { .. }
-        | Reply::Status { .. }
-        | Reply::Registered(_)
-        | Reply::Opened(_)
-        | Reply::Deposited { .. }
-        | Reply::Flagged { .. }
-        | Reply::Balance { .. }
-        | Reply::Ruled { .. }
-        | Reply::Settled { .. }
-        | Reply::Applied { .. }
-        | Reply::Held(_)
-        | Reply::Ordered { .. }
-        | Reply::Accepted { .. }
-        | Reply::Printed(_)
-        | Reply::PrinterFault(_)
-        | Reply::Closed(_)
-        | Reply::Trusted(_)
-        | Reply::Reconciled { .. }
-        | Reply::End
-        | Reply::NoDay
-        | Reply::NoMessage(_)
-        | Reply::OffNode(_)
-        | Reply::OnAlready(_)
-        | Reply::Worn(_)
-        | Reply::Damaged(_) => false,
-    }
-}
-
 // The postage of a message that asks a device for a mark.
 fn postage_in(note: &Note) -> Option<u32>
     ensures { result ≡ debit_postage (read note.now) }
@@ -123,7 +70,7 @@ pub(crate) fn postage_taken(told: &Heard, job: u32) -> Option<u32>
     ensures found { IfSome result (λ p. IsTaken job told.now.reply told.now.sent p) }
     ensures none { IfNone result ((p : ℕ) → IsTaken job told.now.reply told.now.sent p → ⊥) }
 {
-    if !is_sent_debit(&told.reply) {
+    if !told.reply.is_sent_debit() {
         return None;
     }
     let Some(note) = &told.sent else {

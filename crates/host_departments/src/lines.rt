@@ -9,9 +9,8 @@ ghost use Rattle.host_departments.specs.Rows.{IsDepartment};
 ghost use Rattle.host_departments.specs.declared.row.DepartmentLine.{DepartmentLine as TheLine};
 
 use crate::row::{DEPARTMENTS, DepartmentLine};
-use bench_base::events::Event;
 use script_text::read_event;
-use script_words::{one, split_word, two};
+use script_words::{is_word, one, split_word, two};
 
 fn is_department(number: u32) -> bool
     ensures { IsTrue result ↔ IsDepartment number }
@@ -47,12 +46,6 @@ fn read_one(rest: &[u8]) -> Option<u32>
         return Some(read);
     }
     None
-}
-
-fn is_word(word: &[u8], wanted: &[u8]) -> bool
-    ensures { IsTrue result ↔ (word.now ≡ wanted.now) }
-{
-    word == wanted
 }
 
 // The line of the words behind `dept`, of which this is the first.
@@ -93,49 +86,13 @@ fn read_dept(prefix: &[u8]) -> Option<DepartmentLine>
     }
 }
 
-// The job that an event is to print.
-fn job_printed(event: &Event) -> Option<u32>
-    ensures found { IfSome result (λ j. event.now ≡ ev.Print j) }
-    ensures none { IfNone result ((j : ℕ) → event.now ≡ ev.Print j → ⊥) }
-{
-    match event {
-        Event::Print(job) => Some(*job),
-        Event::Day(_)
-        | Event::Rates
-        | Event::Make { .. }
-        | Event::On(_)
-        | Event::Off(_)
-        | Event::Cut { .. }
-        | Event::Debit { .. }
-        | Event::Ask { .. }
-        | Event::Resend(_)
-        | Event::Ack(_)
-        | Event::Status(_)
-        | Event::Register { .. }
-        | Event::OpenCustomer(_)
-        | Event::Deposit { .. }
-        | Event::Flag { .. }
-        | Event::Balance(_)
-        | Event::Deliver(_)
-        | Event::Give { .. }
-        | Event::Order { .. }
-        | Event::Send(_)
-        | Event::Close(_)
-        | Event::Trust { .. }
-        | Event::ScanMsg { .. }
-        | Event::ScanHex { .. }
-        | Event::Reconcile(_)
-        | Event::End => None,
-    }
-}
-
 // The job that the line is to print.
 fn print_in(line: &[u8]) -> Option<u32>
     ensures found { IfSome result (λ j. IsLineOf (ev.Print j) line.now) }
     ensures none { IfNone result ((j : ℕ) → IsLineOf (ev.Print j) line.now → ⊥) }
 {
     match read_event(line) {
-        Ok(event) => job_printed(&event),
+        Ok(event) => event.print_job(),
         Err(_) => None,
     }
 }

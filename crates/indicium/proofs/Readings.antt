@@ -3,7 +3,6 @@ use Rattle.std.proofs.Common.{◌≡◌, ◌==◌, ℕ, ℤ, [], ◌∷◌, ◌+
 use Rattle.std.specs.Int.{w32}
 use Rattle.std.proofs.lemmas.Int.{of_z-to_z, to_z-of_z}
 use Rattle.std.proofs.lemmas.List.{take_at, drop_at, take-append-drop}
-use borrow.Author.Gap.{read_sfits}
 use Rattle.bench_base.specs.Table.{Size, One, room, row, values, Fit, IsBytes, spelled}
 use Rattle.bench_base.specs.Rules.{is_version, IsVersion}
 use Rattle.bench_base.proofs.Tables.{row_values, values_row, values_fit, length_row, first_number, second_number, first_cell}
@@ -12,7 +11,7 @@ use Rattle.hmac_core.proofs.Codes.{length_hmac}
 use Rattle.indicium.specs.declared.Mark.{Mark}
 use Rattle.bench_base.specs.declared.refusals.MarkFault.{MarkFault}
 use Rattle.bench_base.specs.declared.refusals.MarkFault.TheVariants.{Length, Version, Algorithm}
-use Rattle.bench_base.proofs.Facts.{ok_same, known, known_is}
+use Rattle.bench_base.proofs.Facts.{read_sfits, ok_same, known, known_is}
 use Rattle.indicium.specs.Marks.{mark_fields, mark_table, mark_values, mark_from, body, spell, IsWhole, mark_at, read_mark, ReadsAs, IsSpelled}
 
 -- a fact of each of the two tables

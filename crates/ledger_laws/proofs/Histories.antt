@@ -17,7 +17,7 @@ use Rattle.bench_base.specs.declared.events.Event.TheVariants as ev
 use Rattle.bench_base.specs.declared.events.Reply.TheVariants as r
 use Rattle.bench_base.specs.Rules.{Rules}
 use Rattle.bench_base.specs.Plans.{Plan, told}
-use Rattle.bench_base.specs.Ranges.{IsDevice, IsDay, IsCount, IsPostage, IsWholeEvent, TakesBytes, IsGiven}
+use Rattle.bench_base.specs.Ranges.{IsDevice, IsDay, IsCount, IsPostage, TakesBytes, IsGiven}
 use Rattle.bench_base.specs.Table.{IsBytes}
 use Rattle.bench_base.specs.Ledger.{Ledger, day_in, rates_in, messages, message, IsSent, is_on, count_of, counted}
 use Rattle.bench_base.specs.Scans.{trusted}
@@ -35,7 +35,7 @@ use Rattle.host_jobs.specs.Acts.{message_act}
 use Rattle.host_jobs.specs.Plans as host
 use Rattle.ledger_moves.specs.Tariffs.{Tariff, TextFault, NoToml, NoForm}
 use Rattle.ledger_terms.specs.Editions.{IsCarried, Allows, Follows, Editions}
-use Rattle.bench_base.specs.Events.{needs_day}
+use Rattle.bench_base.specs.Events.{needs_day, IsWholeEvent}
 use Rattle.bench_base.proofs.Facts.{ok_same}
 use Rattle.ledger_moves.specs.Moves
 use Rattle.ledger_moves.specs.Moves.{plan}
@@ -162,11 +162,9 @@ module _ (τ : Tariff) (ρ : Rules) (carried : IsCarried ρ) (H : Ledger) (i : I
 
   day_ok : (x : Event) (text : List ℕ) (today : ℤ) → IsDay today → IsWholeEvent x → Unforged x H → PlanOk ρ H (Moves.plan_on τ ρ H x text today)
   day_ok (ev.Day t) text today day w u = record { sane = tt; plain = refl; no_up = λ n k h. refl; fit = λ y h. absurd (none-some _ h); keeps = λ j. inv_day ρ H t w j }
-  day_ok ev.End text today day w u = ok_refuse ρ H r.End refl tt
   day_ok ev.Rates text today day w u = rates_ok text
   day_ok (ev.On n) text today day w u = on_ok n
   day_ok (ev.Off n) text today day w u = at_ok n _ (λ _. off_ok n)
-  day_ok (ev.Cut n calls keep byte) text today day w u = ok_refuse ρ H (r.CutSet n) refl tt
   day_ok (ev.Make d key) text today day w u = at_ok (Device d) _ (λ on. make_ok ρ carried H i d key on w.0 w.1 (key_of d (counted H)) refl)
   day_ok (ev.Debit d p a k) text today day w u = at_ok (Device d) _ (λ on. debit_ok ρ carried H i (Devices.shown d p) d (Moves.debit_by d p a k) today (ok_shown ρ carried d p) on w.0 (w.1, w.3) day (key_of d (counted H)) refl)
   day_ok (ev.Ask d kind who a) text today day w u = at_ok (Device d) _ (λ on. ask_ok ρ carried H i d kind who a today (messages H) on w.0 w.1 day (key_of d (counted H)) refl)
@@ -188,6 +186,8 @@ module _ (τ : Tariff) (ρ : Rules) (carried : IsCarried ρ) (H : Ledger) (i : I
   day_ok (ev.ScanMsg n k) text today day w u = scan_sent_ok n k today (w.0, w.1) (message k H) refl
   day_ok (ev.ScanHex n bytes) text today day w u = scan_bytes n today bytes (w.0, w.1) u
   day_ok (ev.Reconcile d) text today day w u = at_ok (Device d) _ (λ _. at_ok Centre _ (λ on. reconcile_all d (key_of d (counted H)) on))
+  -- what the bench answers alone
+  day_ok x text today day w u = ok_refuse ρ H (Moves.plan_on τ ρ H x text today).reply refl tt
 
   dated_ok : (x : Event) (text : List ℕ) (day : Option ℤ) → day_in H ≡ day → IsWholeEvent x → Unforged x H → PlanOk ρ H (Moves.on_day (Moves.plan_on τ ρ H x text) day)
   dated_ok x text None is w u = ok_refuse ρ H r.NoDay refl tt

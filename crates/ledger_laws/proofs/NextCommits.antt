@@ -6,8 +6,9 @@ use Rattle.bench_base.specs.declared.words.Node.{Node}
 use Rattle.bench_base.specs.declared.ledger.Commit.{Commit}
 use Rattle.bench_base.specs.declared.events.Event.{Event}
 use Rattle.bench_base.specs.Rules.{Rules}
-use Rattle.bench_base.specs.Ranges.{IsWholeEvent, InRange}
+use Rattle.bench_base.specs.Ranges.{InRange}
 use Rattle.bench_base.specs.Ledger.{Ledger, torn_of, counted}
+use Rattle.bench_base.specs.Events.{IsWholeEvent}
 use Rattle.ledger_moves.specs.Tariffs.{Tariff}
 use Rattle.ledger_terms.specs.Editions.{Editions}
 use Rattle.ledger_moves.specs.Moves.{plan}

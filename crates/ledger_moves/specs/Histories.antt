@@ -5,8 +5,10 @@ use Rattle.bench_base.specs.declared.refusals.Unread.{Unread}
 use Rattle.bench_base.specs.declared.refusals.MarkFault.{MarkFault}
 use Rattle.bench_base.specs.declared.ledger.Entry.TheVariants as e
 use Rattle.bench_base.specs.declared.events.Event.{Event}
-use Rattle.bench_base.specs.Events.{Brought, Nothing, Handed, Scanned, brought_by}
+use Rattle.bench_base.specs.Events.{brought_by}
 use Rattle.bench_base.specs.declared.events.Reply.{Reply}
+use Rattle.bench_base.specs.declared.questions.Brought.{Brought}
+use Rattle.bench_base.specs.declared.questions.Brought.TheVariants.{Nothing, Handed, Scanned}
 use Rattle.bench_base.specs.Rules.{Rules}
 use Rattle.bench_base.specs.Ledger.{Ledger, counted, IsSent, IsReleased}
 use Rattle.bench_base.specs.Scans.{trusted}

@@ -3,10 +3,10 @@ use Rattle.std.proofs.Common.{◌≡◌, ◌≢◌, ◌⊎◌, inl, inr, ℕ, Li
 use Rattle.std.proofs.KnownBytes.{Appends-nil}
 use Rattle.bench_base.specs.declared.events.Event.{Event}
 use Rattle.bench_base.specs.declared.events.Event.TheVariants as ev
-use Rattle.bench_base.specs.Ranges.{IsWholeEvent}
+use Rattle.bench_base.specs.Events.{IsWholeEvent}
 use Rattle.node_turns.specs.declared.turn.Turn.{Turn}
 use Rattle.script_text.specs.Grammar.{Spells, IsSkipped}
-use Rattle.script_text.specs.ReplyRanges.{IsWholeReply}
+use Rattle.script_text.specs.Texts.{IsWholeReply}
 use Rattle.line_runs.specs.Lines.{ended}
 use Rattle.line_runs.specs.Turns.{Reported, LineEnd}
 use Rattle.line_runs.specs.declared.status.Status.TheVariants as status

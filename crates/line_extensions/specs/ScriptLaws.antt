@@ -4,7 +4,7 @@ use Rattle.bench_base.specs.declared.events.Event.{Event}
 use Rattle.bench_base.specs.declared.events.Event.TheVariants as event
 use Rattle.script_words.specs.Words.{joined}
 use Rattle.script_text.specs.Grammar.{Spells, IsSkipped}
-use Rattle.script_text.proofs.EventsBack.{one_event_of, no_event_skipped}
+use Rattle.script_text.proofs.EachEvent.{one_event_of, no_event_skipped}
 use Rattle.line_runs.specs.Trace.{IsGrammar, FitsGrammar}
 use Rattle.line_extensions.specs.Trace.{StepRecord, TraceStep, Skipped, Did, done_in, IsOf, IsEnd, GoesOn, line_in}
 use Rattle.line_extensions.specs.Events.{IsLineOf, IsBad}

@@ -2,7 +2,7 @@
 use Rattle.std.specs.Prelude.{◌≡◌, ◌≢◌, ◌⊎◌, ◌+◌, ℕ, List}
 use Rattle.bench_base.specs.declared.events.Event.{Event}
 use Rattle.bench_base.specs.declared.events.Event.TheVariants as ev
-use Rattle.bench_base.specs.Ranges.{IsWholeEvent}
+use Rattle.bench_base.specs.Events.{IsWholeEvent}
 use Rattle.script_text.specs.Grammar.{Spells, IsSkipped}
 use Rattle.line_extensions.specs.Events.{IsLineOf}
 use Rattle.line_extensions.specs.declared.extension.Next.{Next}

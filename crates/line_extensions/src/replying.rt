@@ -1,11 +1,11 @@
 //! What becomes of the reply to an event: its line in the report, and whether the run ends with it.
 ghost use Rattle.std.specs.Prelude.{◌≡◌, ◌≢◌, ℕ, List, IfNone, IfSome, OnOk, OnErr};
 ghost use Rattle.std.specs.Io.KnownBytes.{Appends};
+ghost use Rattle.script_text.specs.Texts.{IsWholeReply};
 ghost use Rattle.bench_base.specs.Causes.{HasCause};
 ghost use Rattle.bench_base.specs.declared.events.Event.TheVariants as ends;
 ghost use Rattle.line_runs.specs.Lines.{IsCutOff};
 ghost use Rattle.line_extensions.specs.Trace.{line_of};
-ghost use Rattle.script_text.specs.ReplyRanges.{IsWholeReply};
 
 use bench_base::events::{Event, Reply};
 use bench_base::stream::{Sink, WriteFail};
@@ -19,34 +19,10 @@ pub fn ended_by(event: &Event) -> Option<SideStatus>
     ensures goes_on { IfNone result (event.now ≢ ends.End) }
     ensures done { IfSome result (λ s. (s ≡ SideStatus.Run Status.Done) × (event.now ≡ ends.End)) }
 {
-    match event {
-        Event::End => Some(SideStatus::Run(Status::Done)),
-        Event::Day(_)
-        | Event::Rates
-        | Event::Make { .. }
-        | Event::On(_)
-        | Event::Off(_)
-        | Event::Cut { .. }
-        | Event::Debit { .. }
-        | Event::Ask { .. }
-        | Event::Resend(_)
-        | Event::Ack(_)
-        | Event::Status(_)
-        | Event::Register { .. }
-        | Event::OpenCustomer(_)
-        | Event::Deposit { .. }
-        | Event::Flag { .. }
-        | Event::Balance(_)
-        | Event::Deliver(_)
-        | Event::Give { .. }
-        | Event::Order { .. }
-        | Event::Send(_)
-        | Event::Print(_)
-        | Event::Close(_)
-        | Event::Trust { .. }
-        | Event::ScanMsg { .. }
-        | Event::ScanHex { .. }
-        | Event::Reconcile(_) => None,
+    if event.ends() {
+        Some(SideStatus::Run(Status::Done))
+    } else {
+        None
     }
 }
 

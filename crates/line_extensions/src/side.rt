@@ -1,13 +1,13 @@
 //! The lines of a script that are events of a bench, or a desk's own.
 ghost use Rattle.std.specs.Prelude.{◌≡◌, ◌≢◌, ◌+◌, ◌≤◌, ◌<◌, ℕ, List, flat_map, OnOk, OnErr, Some};
 ghost use Rattle.std.specs.Io.KnownBytes.{Appends};
+ghost use Rattle.script_text.specs.Texts.{IsWholeReply};
 ghost use Rattle.bench_base.specs.Causes.{HasCause, Rose};
-ghost use Rattle.bench_base.specs.Ranges.{IsWholeEvent};
+ghost use Rattle.bench_base.specs.Events.{IsWholeEvent};
 ghost use Rattle.bench_base.specs.declared.events.Event.TheVariants as ends;
 ghost use Rattle.node_turns.specs.declared.turn.Turn.{Turn};
 ghost use Rattle.line_runs.specs.Lines.{ended, IsCutOff};
 ghost use Rattle.line_runs.specs.Turns.{Reported};
-ghost use Rattle.script_text.specs.ReplyRanges.{IsWholeReply};
 ghost use Rattle.line_extensions.specs.Trace.{StepRecord, line_of};
 ghost use Rattle.line_extensions.specs.DeskLaws.{side_done, side_fits};
 ghost use Rattle.line_extensions.specs.Desks.{World, world, SideLeaves, side_lines, Does, Asks};

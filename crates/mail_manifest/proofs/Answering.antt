@@ -4,6 +4,7 @@ use Rattle.std.specs.Prelude.{codes}
 use Rattle.std.proofs.lemmas.Option.{same_Some}
 use Rattle.bench_base.specs.declared.events.Event.{Event}
 use Rattle.bench_base.specs.declared.events.Reply.{Reply}
+use Rattle.bench_base.specs.Questions.{IsAccepted}
 use Rattle.node_turns.specs.declared.turn.Turn.{Turn}
 use Rattle.line_extensions.specs.Trace.{StepRecord, Skipped, Did}
 use Rattle.line_extensions.specs.Desks.{World, world, Asks, Does}
@@ -14,7 +15,6 @@ use Rattle.mail_manifest.specs.Answers.{IsTold, AreScanned, IsChecked, IsAnswere
 use Rattle.mail_manifest.specs.Causes.{Either, Finds}
 use Rattle.mail_manifest.specs.CheckerDesk.{checker_desk}
 use Rattle.mail_manifest.specs.Courses.{scan_of, yes_of, Answers, Scans, ByCause, BeginsOn, BeginsBare, BeginsWith, GoesBy, Scanned, GoesOn}
-use Rattle.scan_laws.specs.Acceptances.{IsAccepted}
 use Rattle.scan_laws.proofs.Accepting.{accepted_by}
 use Rattle.mail_manifest.specs.Listings.{Listing, opened, with_mark, code_of}
 use Rattle.mail_manifest.specs.Texts.{said_texts, open_text, piece_text, code_text, yes_text, no_piece_text}

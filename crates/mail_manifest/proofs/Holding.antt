@@ -11,6 +11,7 @@ use Rattle.bench_base.specs.declared.refusals.MarkFault.{MarkFault}
 use Rattle.bench_base.specs.Ledger.{Ledger, counted}
 use Rattle.bench_base.specs.Rules.{editions}
 use Rattle.bench_base.specs.Scans.{accepted}
+use Rattle.bench_base.specs.Questions.{IsAccepted}
 use Rattle.bench_base.proofs.Facts.{ok_same}
 use Rattle.line_extensions.specs.Trace.{StepRecord, Skipped, Did}
 use Rattle.line_extensions.specs.SideTrace.{SideStep, Plain, Own, Broken, steps_in, steps_of}
@@ -22,7 +23,7 @@ use Rattle.ledger_moves.specs.Tariffs.{Tariff}
 use Rattle.run_laws.specs.Trace.{AllMoved, IsAcceptedAs}
 use Rattle.run_laws.proofs.Going.{scanned_among}
 use Rattle.run_laws.proofs.Sums.{sums_alike}
-use Rattle.scan_laws.specs.Acceptances.{IsAccepted, IsOfPiece}
+use Rattle.scan_laws.specs.Acceptances.{IsOfPiece}
 use Rattle.scan_laws.proofs.Entries.{accepted_within}
 use Rattle.scan_laws.proofs.Marked.{released_postage, one_number}
 use Rattle.script_replay.specs.Trace.{ledger_after}

@@ -1,10 +1,10 @@
 -- What a line about the manifest is answered, by the manifest and by the replies to its scans; and the manifest after it.
 use Rattle.std.specs.Prelude.{◌≡◌, ◌⊎◌, ℕ, ◌+◌, List, [], ◌∷◌, length, Option, Some, None, codes, ◌==◌, ◌↔◌}
+use Rattle.bench_base.specs.Questions.{IsAccepted}
 use Rattle.line_extensions.specs.Trace.{StepRecord, Skipped, Did}
 use Rattle.line_extensions.specs.SideTrace.{SideStep, Plain, Own, Broken}
 use Rattle.mail_manifest.specs.Causes.{Either, Finds}
 use Rattle.mail_manifest.specs.Courses.{scan_of}
-use Rattle.scan_laws.specs.Acceptances.{IsAccepted}
 use Rattle.mail_manifest.specs.Listings.{Listing, opened, with_mark, code_of, AllRead, postage_in_all}
 use Rattle.mail_manifest.specs.ManifestLines.{IsManifestLine}
 use Rattle.mail_manifest.specs.Texts.{said_texts, open_text, piece_text, code_text, yes_text, no_piece_text}

@@ -3,7 +3,7 @@ use Rattle.std.specs.Prelude.{◌≡◌, ◌⊎◌, ℕ, ◌+◌, ◌-◌, List,
 use Rattle.bench_base.specs.declared.events.Event.{Event}
 use Rattle.bench_base.specs.declared.events.Event.TheVariants as ev
 use Rattle.bench_base.specs.declared.events.Reply.{Reply}
-use Rattle.scan_laws.specs.Acceptances.{IsAccepted}
+use Rattle.bench_base.specs.Questions.{IsAccepted}
 use Rattle.line_extensions.specs.declared.extension.Next.{Next}
 use Rattle.line_extensions.specs.declared.extension.Next.TheVariants.{Step, Say}
 use Rattle.mail_manifest.specs.Causes.{Either, Finds}

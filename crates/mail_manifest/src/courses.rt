@@ -1,7 +1,7 @@
 //! What the checker does for a line about the manifest, and after each scan.
 ghost use Rattle.std.specs.Prelude.{◌≡◌, ◌≢◌, ◌↔◌, ◌-◌, ◌<◌, ◌≤◌, ◌+◌, Some, None, IfOk, OnErr, IsTrue, length};
-ghost use Rattle.bench_base.specs.Ranges.{IsWholeEvent};
 ghost use Rattle.bench_base.specs.declared.events.Event.TheVariants as ev;
+ghost use Rattle.bench_base.specs.Events.{IsWholeEvent};
 ghost use Rattle.line_extensions.specs.Wants.{MayAsk, IsStep};
 ghost use Rattle.mail_manifest.specs.Causes.{Finds, FindsMarks};
 ghost use Rattle.mail_manifest.specs.Courses.{Answers, Scanning, Begins, Scanned, scan_of, yes_of};
@@ -20,7 +20,6 @@ use crate::opening::{ManifestLine, Opening};
 use bench_base::bytes::Given;
 use bench_base::events::{Event, Reply};
 use line_extensions::Next;
-use scan_laws::accepted::is_accepted;
 use std::alloc::{AllocError, Global};
 
 // The scan of a mark under this number.
@@ -205,7 +204,7 @@ impl Checker {
         ensures fewer { IsStep result → pieces_left (listing_of self.new) (said_of self.new) < pieces_left
             (listing_of self.old) (said_of self.old) }
     {
-        if !is_accepted(told) {
+        if !told.is_accepted() {
             return self.say(Answer::NoPiece(number, *told));
         }
         let good = match &self.manifest {

@@ -12,7 +12,7 @@ ghost use Rattle.mail_manifest.specs.declared.opening.Opening.{Opening as TheOpe
 use crate::opening::{MOST_PIECES, ManifestLine, Opening};
 use bench_base::bytes::Given;
 use bench_base::words::Key;
-use script_words::{four, one, split_word};
+use script_words::{four, is_word, one, split_word};
 
 // How many numbers of 32 bits there are.
 const WORDS: u64 = 4_294_967_296;
@@ -91,12 +91,6 @@ fn read_check(rest: &[u8]) -> Option<ManifestLine>
         Ok(code) => Some(ManifestLine::Check(code)),
         Err(_) => None,
     }
-}
-
-fn is_word(word: &[u8], wanted: &[u8]) -> bool
-    ensures { IsTrue result ↔ (word.now ≡ wanted.now) }
-{
-    word == wanted
 }
 
 // The line that has this word behind `manifest`, and more behind it.

@@ -12,7 +12,7 @@ use Rattle.bench_base.specs.declared.events.Reply.TheVariants as r
 use Rattle.bench_base.specs.Events.{node_for, needs_on, may_commit, calls_of, IsAt}
 use Rattle.bench_base.specs.Ledger.{Ledger}
 use Rattle.bench_base.specs.Nodes.{node_of}
-use Rattle.bench_base.specs.Replies.{ReplyClass, Did, Refused, refuses, loses_power, faults, leaves_on, class_of, is_refusal, tells_power, tells_fault, MayGet, Commits as CommitsAt}
+use Rattle.bench_base.specs.Replies.{ReplyClass, Did, Refused, refuses, loses_power, faults, leaves_on, class_of, report_of, is_refusal, tells_power, tells_fault, MayGet, Commits as CommitsAt}
 use Rattle.bench_base.specs.Plans.{Plan}
 use Rattle.nv_model.specs.declared.nv.Nv as nv
 use Rattle.nv_model.specs.declared.fuse.Fuse as fuse
@@ -40,7 +40,7 @@ use Rattle.node_storage.specs.Ends.{end_of}
 use Rattle.node_storage.specs.Shown.{Allowed, IsAfter, IsNext, IsFitting}
 use Rattle.node_storage.specs.Stands.{times_of, meters_of, Stands}
 use Rattle.node_storage.proofs.Rests.{mounts_none}
-use Rattle.node_turns.specs.Adds.{Adds, AddsTold, AddsDone, brings}
+use Rattle.node_turns.specs.Adds.{Adds, AddsTold, AddsDone}
 use Rattle.node_turns.specs.Costs.{Charged}
 use Rattle.node_turns.specs.NodeTurns.{NodeTurn}
 use Rattle.node_turns.specs.Calling.{Called, UsesMade}
@@ -75,7 +75,7 @@ pub record MayRefuse (m : Node) (e : Event) (x : Reply) : Type 0 where
 pub record MaySay (e : Event) (a : Said) : Type 0 where
   pub told : class_of a.reply ≡ Did
   pub gets : MayGet e a.reply
-  pub adds : (made : Option Commit) → (may_commit e ≡ false → made ≡ None) → AddsDone e (brings a.reply) (in_order (tells a ++ with_commit made []))
+  pub adds : (made : Option Commit) → (may_commit e ≡ false → made ≡ None) → AddsDone e (report_of a.reply) (in_order (tells a ++ with_commit made []))
 
 -- it may make this commit
 pub record MayMake (m : Node) (e : Event) (c : Commit) : Type 0 where
@@ -124,11 +124,11 @@ module _ {X : Type 0} (m : Node) (e : Event) where
   made_none (Commits c x a) told none = no (sym none ∙ told.0.commits)
 
   -- what is added by what was said
-  pub adds_by : (act : Act X Reply Said) (a : Said) → IsToldBy m e act → TellsOf a act → AddsDone e (brings a.reply) (in_order (act_entries tells act))
+  pub adds_by : (act : Act X Reply Said) (a : Said) → IsToldBy m e act → TellsOf a act → AddsDone e (report_of a.reply) (in_order (act_entries tells act))
   adds_by (Refuse x) a told of = absurd of
-  adds_by (Tell b) a told of = subst (λ (y : Said). AddsDone e (brings y.reply) (in_order (tells b))) of
-      (subst (λ (l : Ledger). AddsDone e (brings b.reply) (in_order l)) (append-nil (tells b)) (told.adds None (λ none. refl)))
-  adds_by (Commits c x b) a told of = subst (λ (y : Said). AddsDone e (brings y.reply) (in_order (tells b ++ entry.Commit c ∷ []))) of
+  adds_by (Tell b) a told of = subst (λ (y : Said). AddsDone e (report_of y.reply) (in_order (tells b))) of
+      (subst (λ (l : Ledger). AddsDone e (report_of b.reply) (in_order l)) (append-nil (tells b)) (told.adds None (λ none. refl)))
+  adds_by (Commits c x b) a told of = subst (λ (y : Said). AddsDone e (report_of y.reply) (in_order (tells b ++ entry.Commit c ∷ []))) of
       (told.1.adds (Some c) (λ none. no (sym none ∙ told.0.commits)))
 
 -- == the commit that is told ==

@@ -1,9 +1,9 @@
 //! What the words of the program call for, and which storages that uses.
-ghost use Rattle.std.specs.Prelude.{◌≡◌, ◌≢◌, ◌↔◌, ◌∷◌, [], map, codes, string_bytes, IfSome, IfNone, IsTrue};
+ghost use Rattle.std.specs.Prelude.{◌≡◌, ◌≢◌, ◌∷◌, [], map, codes, string_bytes, IfSome, IfNone};
 ghost use Rattle.program_calls.specs.Calls.{call_words, uses_of, IsCall};
 ghost use Rattle.program_calls.specs.declared.call.Call.{Call};
 
-use script_text::{Words, read_words};
+use script_text::{Words, is_word, read_words};
 
 /// What the program is called for.
 #[derive(Clone, Copy, Debug, PartialEq, Eq)]
@@ -47,12 +47,6 @@ impl Call {
             Call::Recompute => Uses::Nothing,
         }
     }
-}
-
-fn is_word(word: &String, wanted: &str) -> bool
-    ensures same { IsTrue result ↔ (string_bytes word.now ≡ wanted.now) }
-{
-    word.as_str() == wanted
 }
 
 // What one word calls for, if it is none of a bench alone.

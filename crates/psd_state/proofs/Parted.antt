@@ -4,7 +4,6 @@ use Rattle.std.specs.Int.{w32, cast_signed, cast_unsigned}
 use Rattle.std.proofs.lemmas.Int.{of_z-to_z, to_z-of_z}
 use Rattle.std.proofs.lemmas.List.{take_at, drop_at, drop-drop, length-replicate}
 use Rattle.std.proofs.Math.Facts.{Fits-of_z}
-use borrow.Author.Gap.{read_sfits}
 use Rattle.bench_base.specs.Table.{Size, One, room, number, row, values, Fit, IsBytes}
 use Rattle.bench_base.proofs.Tables.{row_values, values_row, values_fit, length_row}
 use Rattle.indicium.specs.declared.Mark.{Mark}
@@ -15,7 +14,7 @@ use Rattle.psd_wire.proofs.Readings.{length_request, one_spelling, request_room,
 use Rattle.registers.specs.Sums.{Sums}
 use Rattle.bench_base.specs.declared.words.Phase.{Phase}
 use Rattle.bench_base.specs.declared.words.Phase.TheVariants.{Blank, Manufactured, Authorised, InService, Locked, Withdrawn}
-use Rattle.bench_base.proofs.Facts.{ok_same, behind}
+use Rattle.bench_base.proofs.Facts.{read_sfits, ok_same, behind}
 use Rattle.psd_wire.specs.declared.message.Request.{Request}
 use Rattle.psd_wire.specs.declared.message.Message.TheVariants as m
 use Rattle.psd_wire.specs.Grammar as grammar

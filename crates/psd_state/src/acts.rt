@@ -1,7 +1,6 @@
 //! What a device does in a call, decided by its record alone. Money is in mills, and a day counts from 1970-01-01.
 ghost use Rattle.std.specs.Prelude.{◌≡◌};
 ghost use Rattle.bench_base.specs.Rules.{todays_rules};
-ghost use Rattle.psd_wire.specs.Codes.{has_code};
 ghost use Rattle.psd_state.specs.Answers.{apply_answer, debit_answer};
 ghost use Rattle.psd_state.specs.Acts as act_of;
 
@@ -15,9 +14,8 @@ use bench_base::ledger::Commit;
 use bench_base::numbers::{DayNo, DevNo};
 use bench_base::refusals::{DevRefusal, Unread};
 use bench_base::words::{Key, Kind, Verdict};
-use hmac_core::ReadyKey;
 use node_acts::Act;
-use psd_wire::{DebitMsg, Message, ReplyMsg, code_matches_by, read_message};
+use psd_wire::{DebitMsg, Message, ReplyMsg, is_own_code, read_message};
 
 /// What a call of a device does.
 pub type DeviceAct<A> = Act<DevRec, DevRefusal, A>;
@@ -168,12 +166,6 @@ fn apply_act(device: DevNo, reply: &ReplyMsg, kept: &DevRec) -> DeviceAct<Taken>
             },
         ),
     }
-}
-
-fn is_own_code(bytes: &[u8], key: &ReadyKey) -> bool
-    ensures { result ≡ has_code key.now bytes.now }
-{
-    code_matches_by(bytes, key)
 }
 
 fn reply_act(

@@ -79,6 +79,6 @@ fn loaded(registers: &Registers, amount: u32) -> Registers
 {
     match registers.load(amount) {
         Ok(loaded) => loaded,
-        Err(_) => *registers,
+        Err(_) => unreachable!(),
     }
 }

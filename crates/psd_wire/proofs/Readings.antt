@@ -5,7 +5,6 @@ use Rattle.std.proofs.lemmas.Int.{of_z-to_z, to_z-of_z, ints}
 use Rattle.std.proofs.lemmas.Bool.{cases_eq}
 use Rattle.std.proofs.lemmas.List.{take_at, drop_at, take-append-drop, get_or-take, get_or-drop, drop-replicate, take-replicate, nil_from_length}
 use Rattle.std.proofs.lemmas.Option.{same_Some, none-some}
-use borrow.Author.Gap.{read_sfits}
 use Rattle.bench_base.specs.Table.{Size, One, Four, Eight, number, row, values, Fit, IsBytes, room}
 use Rattle.bench_base.specs.Rules.{is_version, IsVersion}
 use Rattle.bench_base.proofs.Tables.{row_values, values_row, values_fit, length_row, joined, first_number, second_number, first_cell, second_cell}
@@ -15,7 +14,7 @@ use Rattle.bench_base.specs.declared.words.Verdict.{Verdict}
 use Rattle.bench_base.specs.declared.words.Verdict.TheVariants.{Granted, NotEnrolled, EnrolledAlready, NoCustomer, Suspended, NoFunds, Imbalance}
 use Rattle.bench_base.specs.declared.refusals.Unread.{Unread}
 use Rattle.bench_base.specs.declared.refusals.Unread.TheVariants as unread
-use Rattle.bench_base.proofs.Facts.{ok_same, known, known_is}
+use Rattle.bench_base.proofs.Facts.{read_sfits, ok_same, known, known_is}
 use Rattle.hmac_core.specs.Hmac.{hmac}
 use Rattle.hmac_core.proofs.Codes.{length_hmac}
 use Rattle.indicium.specs.Marks.{read_mark}

@@ -4,6 +4,7 @@ ghost use Rattle.bench_base.specs.Table.{Four, Eight, room, values};
 ghost use Rattle.bench_base.specs.declared.refusals.Unread.{Unread as TheUnread};
 ghost use Rattle.psd_wire.specs.declared.message.Message.{Message as TheMessage};
 ghost use Rattle.psd_wire.specs.Grammar.{read, kind_of, verdict_of, size_of, sum_size, request_table, reply_table, request_in, reply_in, request_at, reply_at, done_at, debit_at, release_at, body, spell, IsWhole, IsCoded, IsReading, HasCode, coded_in};
+ghost use Rattle.psd_wire.specs.Codes.{has_code};
 ghost use Rattle.psd_wire.specs.Faults.{HasFault};
 
 use crate::message::{DebitMsg, DoneMsg, Message, ReplyMsg, Request};
@@ -284,6 +285,13 @@ pub fn code_matches_by(bytes: &[u8], key: &ReadyKey) -> bool
     }
     let front = bytes.len() - 32;
     key.matches(&bytes[..front], &bytes[front..])
+}
+
+/// Whether the last 32 bytes are the code of all before them, under a key that was made ready.
+pub fn is_own_code(bytes: &[u8], key: &ReadyKey) -> bool
+    ensures { result ≡ has_code key.now bytes.now }
+{
+    code_matches_by(bytes, key)
 }
 
 /// The message whose spelling under the key the bytes are, among those that end in a code; None if and only if

@@ -6,11 +6,11 @@ use Rattle.bench_base.specs.declared.events.Event.TheVariants as ev
 use Rattle.bench_base.specs.Ledger.{Ledger}
 use Rattle.bench_base.specs.Replies.{class_of}
 use Rattle.bench_base.specs.Rules.{todays_rules}
+use Rattle.bench_base.specs.Questions.{IsAccepted}
 use Rattle.line_extensions.specs.Trace.{StepRecord}
 use Rattle.ledger_moves.specs.Histories as histories
 use Rattle.ledger_moves.specs.Moves.{plan}
 use Rattle.ledger_moves.specs.Tariffs.{Tariff}
-use Rattle.scan_laws.specs.Acceptances.{IsAccepted}
 use Rattle.scan_laws.proofs.Accepting.{accepts_now}
 use Rattle.scan_laws.proofs.Entries.{accepted_kept, released_kept}
 use Rattle.script_replay.specs.Trace.{ledger_by, ledger_after, RunWhile, AreUnforged}

@@ -2,9 +2,9 @@
 ghost use Rattle.std.specs.Prelude.{◌≡◌, ℕ, List, ◌++◌, Contains};
 ghost use Rattle.bench_base.specs.declared.events.Event.TheVariants as ev;
 ghost use Rattle.bench_base.specs.Ledger.{Ledger};
+ghost use Rattle.bench_base.specs.Questions.{IsAccepted};
 ghost use Rattle.line_extensions.specs.Trace.{StepRecord};
 ghost use Rattle.ledger_moves.specs.Tariffs.{Tariff};
-ghost use Rattle.scan_laws.specs.Acceptances.{IsAccepted};
 ghost use Rattle.run_laws.specs.Trace.{AllMoved, IsAcceptedAs};
 ghost use Rattle.script_replay.specs.Trace.{ledger_after, RunWhile, AreUnforged};
 ghost use Rattle.script_replay.specs.Run.{Unforged, Moves};

@@ -16,6 +16,7 @@ use Rattle.bench_base.specs.Plans.{Plan, refuse}
 use Rattle.bench_base.specs.Cells.{is_worn}
 use Rattle.bench_base.specs.Ledger.{Ledger, IsReleased, day_in, is_on, counted}
 use Rattle.bench_base.specs.Scans.{trusted, accepted}
+use Rattle.bench_base.specs.Questions.{IsAccepted}
 use Rattle.node_acts.specs.Plans.{after, Fails}
 use Rattle.node_acts.specs.Said.{said_plan}
 use Rattle.indicium.specs.declared.Mark.{Mark}
@@ -30,7 +31,7 @@ use Rattle.ledger_moves.specs.Moves as moves
 use Rattle.ledger_moves.specs.Moves.{Moves, plan, entries, at_node, unless_worn, OtherUp, FailsToRead}
 use Rattle.ledger_moves.specs.Tariffs.{Tariff}
 use Rattle.bench_base.proofs.Rows.{chosen, first}
-use Rattle.scan_laws.specs.Acceptances.{IsAccepted, Accepts}
+use Rattle.scan_laws.specs.Acceptances.{Accepts}
 
 module _ (n : ℕ) (bytes : List ℕ) (H : Ledger) where
   -- the plan's answer, if it is an acceptance, says so of the ledger after it

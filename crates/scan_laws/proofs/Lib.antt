@@ -1,4 +1,5 @@
 pub mod Accepting
 pub mod Entries
 pub mod Marked
+pub mod Tells
 pub mod Plans

@@ -1,20 +1,14 @@
 -- The acceptances of a ledger: those that count, and those of commits that are open.
-use Rattle.std.specs.Prelude.{◌≡◌, ◌⊎◌, ℕ, List, Bool, Some, Ok, Contains}
+use Rattle.std.specs.Prelude.{◌≡◌, ◌⊎◌, ℕ, List, Some, Ok, Contains}
 use Rattle.bench_base.specs.declared.words.Node.{Node}
 use Rattle.bench_base.specs.declared.ledger.Commit.TheVariants.{Accepted}
 use Rattle.bench_base.specs.declared.events.Event.{Event}
 use Rattle.bench_base.specs.declared.events.Event.TheVariants as ev
-use Rattle.bench_base.specs.declared.events.Reply.{Reply}
-use Rattle.bench_base.specs.declared.events.Reply.TheVariants as r
 use Rattle.indicium.specs.declared.Mark.{Mark}
 use Rattle.indicium.specs.Marks.{read_mark}
 use Rattle.bench_base.specs.Ledger.{Ledger, IsReleased, torn_of, counted}
 use Rattle.bench_base.specs.Scans.{accepted}
 use Rattle.ledger_moves.specs.Histories.{IsKnownMark}
-
--- the verifier accepted a piece, now or before
-abbrev pub IsAccepted : Reply → Type 0
-IsAccepted reply = (d p n : ℕ) × (again : Bool) × (reply ≡ r.Accepted d p n again)
 
 -- P of each acceptance, by device, piece and number of the scan: of those that count, and of one that is open, since it may count later
 pub record EachAccepted (P : ℕ → ℕ → ℕ → Type 0) (H : Ledger) : Type 0 where

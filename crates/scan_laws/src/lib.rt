@@ -1,5 +1,4 @@
 //! Scans: which events accept pieces, and what an acceptance says of the ledger after it.
 #![tactic(auto)]
 
-pub mod accepted;
 pub mod laws;

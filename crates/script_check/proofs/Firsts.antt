@@ -1,14 +1,13 @@
 -- The first word that no event has there.
 use Rattle.std.proofs.Common.{◌≡◌, ◌≢◌, ℕ, suc, ◌+◌, ◌-◌, ◌≤◌, ◌<◌, ◌⊎◌, List, [], ◌∷◌, ◌++◌, length, take, refl, sym, subst, inl, inr, arith, codes}
 use Rattle.bench_base.specs.declared.events.Event.TheVariants as ev
-use Rattle.script_text.proofs.ByKeyword.{no_keyword}
+use Rattle.script_text.proofs.EachEvent.{no_keyword}
 use Rattle.script_check.specs.Forms.{first_form, second_form, AreInPlace, IsTaken}
 use Rattle.script_text.specs.Keywords.{keyword_word}
 use Rattle.script_check.specs.Wrong.{BeginAnEvent, IsFirstWrong}
 use Rattle.script_text.specs.declared.keyword.Keyword.{Keyword}
 use Rattle.script_check.proofs.InPlace.{completed, fewer}
-use Rattle.script_check.proofs.MadeEvents.{made_first, made_second}
-use Rattle.script_check.proofs.NoEvents.{none_begins}
+use Rattle.script_check.proofs.FormEvents.{made_first, made_second, none_begins}
 
 -- so many words begin an event, and with one more they begin none
 at_place : (n place : ℕ) (ws : List (List ℕ)) → place ≡ suc n → n ≤ length ws → BeginAnEvent (take n ws) → (n < length ws → BeginAnEvent (take (suc n) ws) → ⊥)

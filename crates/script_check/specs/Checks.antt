@@ -3,7 +3,7 @@ use Rattle.std.specs.Prelude.{◌≡◌, ◌≢◌, ◌↔◌, ℕ, ◌+◌, ◌
 use Rattle.std.specs.List.{AllByRecursion}
 use Rattle.std.specs.Io.KnownBytes.{Consumes, Appends, IsAtEnd}
 use Rattle.bench_base.specs.Causes.{Rose}
-use Rattle.bench_base.specs.Ranges.{IsWholeEvent}
+use Rattle.bench_base.specs.Events.{IsWholeEvent}
 use Rattle.bench_base.specs.declared.events.Event.{Event}
 use Rattle.line_runs.specs.Lines.{IsOneLine, ended}
 use Rattle.script_text.specs.Grammar.{IsSkipped, Spells}

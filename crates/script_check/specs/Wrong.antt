@@ -1,7 +1,7 @@
 -- The first word of a line that no event has there.
 use Rattle.std.specs.Prelude.{◌≡◌, ℕ, ◌-◌, ◌+◌, ◌≤◌, List, ◌++◌, length, take, slice_get, Some, None}
 use Rattle.bench_base.specs.declared.events.Event.{Event}
-use Rattle.bench_base.specs.Ranges.{IsWholeEvent}
+use Rattle.bench_base.specs.Events.{IsWholeEvent}
 use Rattle.script_text.specs.Grammar.{AreWordsOf}
 
 -- some event begins with these words

@@ -1,7 +1,7 @@
 //! The first word of a line that no event has there.
 ghost use Rattle.std.specs.Prelude.{◌≡◌, ◌↔◌, ◌+◌, ◌≤◌, ◌-◌, ◌⊎◌, [], ◌∷◌, slice_get, None, Some, IsNone, IfSome, MatchOption};
-ghost use Rattle.bench_base.specs.Ranges.{IsWholeEvent};
 ghost use Rattle.bench_base.specs.declared.events.Event.{Event};
+ghost use Rattle.bench_base.specs.Events.{IsWholeEvent};
 ghost use Rattle.script_text.specs.Keywords.{keyword_word};
 ghost use Rattle.script_check.specs.Wrong.{IsFirstWrong, IsWordAt, IsBehindAll};
 ghost use Rattle.script_text.specs.Grammar.{Spells};

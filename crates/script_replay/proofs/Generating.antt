@@ -8,10 +8,12 @@ use Rattle.bench_base.specs.declared.events.Event.{Event}
 use Rattle.bench_base.specs.declared.events.Event.TheVariants as ev
 use Rattle.bench_base.specs.declared.events.Reply.{Reply}
 use Rattle.bench_base.specs.declared.events.Reply.TheVariants as r
+use Rattle.bench_base.specs.declared.questions.Brought.{Brought}
+use Rattle.bench_base.specs.declared.questions.Brought.TheVariants.{Nothing, Handed, Scanned}
 use Rattle.bench_base.specs.Ledger.{Ledger}
 use Rattle.bench_base.specs.Replies.{MayGet}
 use Rattle.node_turns.specs.Printing.{Printer}
-use Rattle.bench_base.specs.Events.{Brought, Nothing, Handed, Scanned, brought_by}
+use Rattle.bench_base.specs.Events.{brought_by}
 use Rattle.ledger_moves.specs.Histories.{IsKnown, AreKnown}
 use Rattle.ledger_moves.specs.Tariffs.{Tariff}
 use Rattle.bench_abstraction.specs.Routing.{as_given, as_given_by, as_scanned_by}

@@ -2,7 +2,7 @@
 use Rattle.std.proofs.Common.{ℕ, List, [], ◌∷◌, Option, None, refl}
 use Rattle.std.proofs.KnownBytes.{Appends-nil}
 use Rattle.script_text.specs.Grammar.{IsSkipped}
-use Rattle.script_text.specs.ReplyRanges.{IsWholeReply}
+use Rattle.script_text.specs.Texts.{IsWholeReply}
 use Rattle.line_runs.specs.Turns.{AreDone, Reported, DidLine}
 use Rattle.line_runs.specs.declared.status.SideStatus.{SideStatus}
 use Rattle.line_extensions.specs.Trace.{StepRecord, TraceStep, Did, Skipped, line_of, IsEnd, GoesOn}

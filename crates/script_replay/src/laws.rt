@@ -1,10 +1,10 @@
 //! Laws of the definitions: each is the contract of a call that does nothing.
 ghost use Rattle.std.specs.Prelude.{◌≡◌, ℕ, List, map};
 ghost use Rattle.std.specs.List.{AllByRecursion};
+ghost use Rattle.script_text.specs.Texts.{told};
 ghost use Rattle.bench_base.specs.Ledger.{Ledger};
 ghost use Rattle.ledger_moves.specs.Tariffs.{Tariff};
 ghost use Rattle.bench_abstraction.specs.Tariff.{IsOfTexts};
-ghost use Rattle.script_text.specs.ReplyRanges.{told};
 ghost use Rattle.line_extensions.specs.Trace.{StepRecord, TraceStep, done_in};
 ghost use Rattle.line_runs.specs.Trace.{Reads, report_of};
 ghost use Rattle.script_replay.specs.Trace.{AreUnforged};

@@ -1,12 +1,12 @@
 //! A run over a whole script: line by line, until it ends.
 ghost use Rattle.std.specs.Prelude.{◌≡◌, ◌≢◌, ◌≤◌, ◌<◌, [], length, Some, map, string_bytes};
+ghost use Rattle.script_text.specs.Texts.{IsWholeReply};
 ghost use Rattle.bench_base.specs.Causes.{Rose};
-ghost use Rattle.bench_base.specs.Ranges.{IsWholeEvent};
+ghost use Rattle.bench_base.specs.Events.{IsWholeEvent};
 ghost use Rattle.bench_base.specs.declared.events.Event.TheVariants as ends;
 ghost use Rattle.bench.specs.declared.benches.TheConstants.{MOST_MESSAGES};
 ghost use Rattle.bench.specs.Benches.{IsReady, bench_of};
 ghost use Rattle.script_replay.specs.Chains.{scene_of, DidEvent, DidTrace};
-ghost use Rattle.script_text.specs.ReplyRanges.{IsWholeReply};
 ghost use Rattle.line_extensions.specs.Trace.{StepRecord, line_of};
 ghost use Rattle.line_runs.specs.Runs.{Replayed};
 ghost use Rattle.line_runs.specs.Turns.{LineEnd, Reported, Ended};

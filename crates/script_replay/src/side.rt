@@ -1,5 +1,5 @@
 //! A run over a script with a desk beside the bench.
-ghost use Rattle.std.specs.Prelude.{◌≡◌, ◌↔◌, ◌∷◌, [], true, false, map, string_bytes, IsTrue};
+ghost use Rattle.std.specs.Prelude.{◌≡◌, ◌∷◌, [], true, false, map, string_bytes};
 ghost use Rattle.bench.specs.Benches.{IsReady, bench_of};
 ghost use Rattle.line_extensions.specs.Desks.{world};
 ghost use Rattle.script_replay.specs.Chains.{scene_of};
@@ -14,14 +14,9 @@ use line_extensions::{AtBench, Extension};
 use line_runs::run_lines;
 use line_runs::status::{SideStatus, Status};
 use nv_model::{Fused, Nv};
+use script_text::is_word;
 use std::alloc::Global;
 use text_streams::BufSource;
-
-fn is_word(word: &String, wanted: &str) -> bool
-    ensures same { IsTrue result ↔ (string_bytes word.now ≡ wanted.now) }
-{
-    word.as_str() == wanted
-}
 
 // Whether the words are this one.
 fn is_called(words: &[String], word: &str) -> bool

@@ -1,12 +1,10 @@
 pub mod Built
-pub mod ByKeyword
 pub mod DayTexts
-pub mod EventWords
-pub mod EventsBack
+pub mod EachEvent
+pub mod EachReply
 pub mod LineForms
+pub mod PrintedWords
 pub mod Programs
 pub mod ReadBack
 pub mod RefusalsBack
-pub mod RepliesBack
-pub mod ReplyWords
 pub mod Tallies

@@ -16,7 +16,7 @@ use Rattle.script_words.specs.declared.values.Hex.{Hex}
 use Rattle.script_text.specs.Grammar.{ask_words}
 use Rattle.script_text.specs.Reading.{AreNoWords, IsEventOf, IsEventBehind}
 use Rattle.script_words.specs.Words.{words_in, node_word, given_word, byte_word, device_word, kind_word}
-use Rattle.script_text.proofs.ByKeyword.{no_event}
+use Rattle.script_text.proofs.EachEvent.{no_event}
 use Rattle.script_words.proofs.Numbers.{same_number}
 use Rattle.script_words.proofs.Splits.{HasFirst, not_one, words_in_some}
 
@@ -87,9 +87,6 @@ no_scan ws msg hex = no_event kw.Scan ws (
   (λ n g whole are. hex n (record {}) g whole.1 tt whole.2 (behind _ _ _ _ are)),
 )
 
--- words behind a keyword that stands alone
-pub no_rates : (line : List ℕ) → AreNoWords (codes "rates" ∷ words_in line)
-no_rates line = no_event kw.Rates (words_in line) (λ whole are. subst HasFirst (behind _ _ _ _ are) (words_in_some line))
-
-pub no_end : (line : List ℕ) → AreNoWords (codes "end" ∷ words_in line)
-no_end line = no_event kw.End (words_in line) (λ whole are. subst HasFirst (behind _ _ _ _ are) (words_in_some line))
+-- words behind a word that stands alone
+pub not_alone : (word line : List ℕ) → word ∷ words_in line ≡ word ∷ [] → ⊥
+not_alone word line are = subst HasFirst (behind word word (words_in line) [] are) (words_in_some line)

@@ -1,5 +1,5 @@
 -- Words are read back: what each kind of word is the word of.
-use Rattle.std.proofs.Common.{◌≡◌, ◌≢◌, length, ℕ, suc, ℤ, pos, negsuc, ◌-◌, ◌^◌, ◌≤◌, ◌<◌, List, [], ◌∷◌, get_or, drop, take, Bool, true, false, eqb, cond, refl, sym, ap, ◌∙◌, arith, inl, inr, decimal, codes}
+use Rattle.std.proofs.Common.{◌≡◌, ◌≢◌, length, ℕ, suc, ℤ, pos, negsuc, ◌-◌, ◌^◌, ◌≤◌, ◌<◌, List, [], ◌∷◌, get_or, drop, take, Bool, true, false, eqb, cond, refl, sym, ap, ◌∙◌, arith, inl, inr, decimal, codes, zero, ◌+◌, ◌*◌}
 use Rattle.std.specs.Fmt.{signed_decimal}
 use Rattle.std.specs.Result.{result_unwrap_or}
 use Rattle.std.proofs.lemmas.Bool.{ne_eqb, cond-false}
@@ -15,12 +15,20 @@ use Rattle.bench_base.specs.declared.words.Kind.TheVariants.{Enrol, Reset, Audit
 use Rattle.bench_base.specs.declared.words.Node.{Node}
 use Rattle.bench_base.specs.declared.words.Node.TheVariants.{Device, Centre, Host, Verifier}
 use Rattle.bench_base.specs.Table.{IsBytes}
+use Rattle.bench_base.specs.Ranges.{IsWord}
 use Rattle.script_words.specs.Words.{device_word, node_word, hex_word, byte_word, given_word, kind_word, new_word, IsLowerDigit}
-use Rattle.script_text.proofs.EventWords.{one_byte}
 use Rattle.script_words.proofs.HexDigits.{AreLower-encode, AreLower}
 use Rattle.script_words.proofs.Numbers.{own}
-use Rattle.script_text.proofs.ByKeyword.{code}
-use Rattle.bench_base.specs.Ranges.{IsWord}
+
+-- a number for each word
+abbrev pub code : List ℕ → ℕ
+code [] = 0
+code (c ∷ w) = c + 256 * code w
+
+-- a byte alone
+pub one_byte : (b : ℕ) → b < 2 ^ 8 → IsBytes (b ∷ [])
+one_byte b h zero = h
+one_byte b h (suc i) = omega arith
 
 -- two words are the same
 abbrev pub same : List ℕ → List ℕ → Bool

@@ -17,10 +17,10 @@ use Rattle.bench_base.specs.declared.refusals.ScanRefusal.{ScanRefusal}
 use Rattle.bench_base.specs.declared.refusals.ScanRefusal.TheVariants as scan
 use Rattle.bench_base.specs.declared.refusals.MarkFault.{MarkFault}
 use Rattle.bench_base.specs.declared.refusals.MarkFault.TheVariants as fault
-use Rattle.script_text.specs.Refusals.{phase_word, state_word, unread_word, fault_word, dev_parts, centre_parts, host_parts, scan_parts, dev_words, centre_words, host_words, scan_words}
-use Rattle.script_text.specs.ReplyRanges.{AreWhole, told_fault, told_refusal}
+use Rattle.script_text.specs.Refusals.{phase_word, state_word, unread_word, fault_word, dev_parts, centre_parts, host_parts, scan_parts, dev_words, centre_words, host_words, scan_words, AreWhole}
+use Rattle.script_text.specs.Texts.{told_fault, told_refusal}
 use Rattle.script_text.proofs.ReadBack.{same, at, number_in, kind_in, signed_in, number_again, word_again, class_again, small_again, kind_again, signed_again}
-use Rattle.script_text.proofs.ReplyWords.{word_small}
+use Rattle.script_text.proofs.PrintedWords.{word_small}
 
 abbrev pub phase_in : List ℕ → Phase
 phase_in w = cond (same w (codes "blank")) phase.Blank (cond (same w (codes "manufactured")) phase.Manufactured (cond (same w (codes "authorised")) phase.Authorised (cond (same w (codes "in-service")) phase.InService (cond (same w (codes "locked")) phase.Locked phase.Withdrawn))))

@@ -6,4 +6,3 @@ pub mod Reading
 pub mod Refusals
 pub mod Summaries
 pub mod Texts
-pub mod ReplyRanges

@@ -1,7 +1,7 @@
 -- What the words behind a keyword read as.
 use Rattle.std.specs.Prelude.{ℕ, List, ◌∷◌, Result, Ok, Err}
-use Rattle.bench_base.specs.Ranges.{IsWholeEvent}
 use Rattle.bench_base.specs.declared.events.Event.{Event}
+use Rattle.bench_base.specs.Events.{IsWholeEvent}
 use Rattle.script_text.specs.Grammar.{AreWordsOf}
 use Rattle.script_text.specs.Keywords.{keyword_word}
 use Rattle.script_words.specs.declared.word.LineFault.{LineFault}

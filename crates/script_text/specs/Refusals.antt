@@ -1,5 +1,6 @@
--- The words of refusals.
-use Rattle.std.specs.Prelude.{ℕ, ℤ, List, ◌∷◌, [], map, codes, decimal}
+-- The words of refusals, and the ranges of the numbers in them.
+use Rattle.std.specs.Prelude.{ℕ, ℤ, ◌<◌, ◌^◌, List, ◌∷◌, [], map, codes, decimal, FitsSigned}
+use Rattle.std.specs.Int.{w32}
 use Rattle.std.specs.Fmt.{signed_decimal}
 use Rattle.bench_base.specs.declared.words.Kind.{Kind}
 use Rattle.bench_base.specs.declared.words.Phase.{Phase}
@@ -20,6 +21,7 @@ use Rattle.bench_base.specs.declared.refusals.HostRefusal.{HostRefusal}
 use Rattle.bench_base.specs.declared.refusals.HostRefusal.TheVariants as host
 use Rattle.bench_base.specs.declared.refusals.ScanRefusal.{ScanRefusal}
 use Rattle.bench_base.specs.declared.refusals.ScanRefusal.TheVariants as scan
+use Rattle.bench_base.specs.Ranges.{IsCustomer, IsWord}
 use Rattle.script_words.specs.Words.{kind_word}
 
 -- the word for a phase of a device
@@ -175,3 +177,18 @@ host_words r = map part_word (host_parts r)
 -- those of the verifier
 unfoldable pub scan_words : ScanRefusal → List (List ℕ)
 scan_words r = map part_word (scan_parts r)
+
+-- each number that a refusal carries fits its type
+abbrev pub AreWhole : List Part → Type 0
+AreWhole [] = Unit {0}
+AreWhole (said w ∷ parts) = AreWhole parts
+AreWhole (of_number n ∷ parts) = IsWord n × AreWhole parts
+AreWhole (of_short n ∷ parts) = (n < 2 ^ 16) × AreWhole parts
+AreWhole (of_sum n ∷ parts) = (n < 2 ^ 64) × AreWhole parts
+AreWhole (of_customer c ∷ parts) = IsCustomer c × AreWhole parts
+AreWhole (of_day t ∷ parts) = FitsSigned w32 t × AreWhole parts
+AreWhole (of_kind k ∷ parts) = AreWhole parts
+AreWhole (of_phase p ∷ parts) = AreWhole parts
+AreWhole (of_state s ∷ parts) = AreWhole parts
+AreWhole (of_cause cause ∷ parts) = AreWhole parts
+AreWhole (of_fault fault ∷ parts) = AreWhole parts

@@ -1,7 +1,9 @@
 -- The summary of a generated run: of how many replies it tells what.
 use Rattle.std.specs.Prelude.{ℕ, ◌+◌, ◌≤◌, List, [], ◌∷◌, Bool, true, false, codes, decimal}
 use Rattle.bench_base.specs.declared.events.Reply.{Reply}
-use Rattle.bench_base.specs.declared.events.Reply.TheVariants as r
+use Rattle.bench_base.specs.declared.questions.Report.{Report}
+use Rattle.bench_base.specs.declared.questions.Report.TheVariants as report
+use Rattle.bench_base.specs.Replies.{report_of}
 use Rattle.script_words.specs.Words.{joined}
 use Rattle.script_text.specs.declared.column.Column.{Column}
 use Rattle.script_text.specs.declared.column.Column.TheVariants.{Refused, Power, Fault, Released, Accepted, Uncounted}
@@ -12,52 +14,16 @@ accepted_as true = Uncounted
 accepted_as false = Accepted
 
 -- a refusal counts where its text begins with `refused`; a mark that is released counts each time
+abbrev pub column_by : Report → Column
+column_by (report.Refusal why) = Refused
+column_by (report.Power n) = Power
+column_by (report.Fault n) = Fault
+column_by (report.Release d piece again k) = Released
+column_by (report.Acceptance again) = accepted_as again
+column_by _ = Uncounted
+
 abbrev pub column_of : Reply → Column
-column_of (r.Day t) = Uncounted
-column_of (r.Rates classes zones) = Uncounted
-column_of r.RatesFault = Uncounted
-column_of r.RatesLength = Uncounted
-column_of r.RatesToml = Uncounted
-column_of r.RatesForm = Uncounted
-column_of (r.Made d) = Uncounted
-column_of (r.Up n k) = Uncounted
-column_of (r.Down n) = Uncounted
-column_of (r.CutSet n) = Uncounted
-column_of (r.Marked d piece again mark) = Uncounted
-column_of (r.SentRequest d number message) = Uncounted
-column_of (r.SentDone d number message) = Uncounted
-column_of (r.Status d shown) = Uncounted
-column_of (r.Registered d) = Uncounted
-column_of (r.Opened w) = Uncounted
-column_of (r.Deposited w receipt again total) = Uncounted
-column_of (r.Flagged w suspended) = Uncounted
-column_of (r.Balance w left) = Uncounted
-column_of (r.Ruled d number verdict again message) = Uncounted
-column_of (r.Settled d number again) = Uncounted
-column_of (r.Applied d number verdict) = Uncounted
-column_of (r.Released d piece again message) = Released
-column_of (r.Held job) = Uncounted
-column_of (r.Ordered job postage) = Uncounted
-column_of (r.SentDebit job message) = Uncounted
-column_of (r.Printed job) = Uncounted
-column_of (r.PrinterFault job) = Uncounted
-column_of (r.Closed job) = Uncounted
-column_of (r.Trusted d) = Uncounted
-column_of (r.Accepted d piece scan again) = accepted_as again
-column_of (r.Reconciled d shown booked under_way) = Uncounted
-column_of r.End = Uncounted
-column_of r.NoDay = Uncounted
-column_of (r.NoMessage k) = Uncounted
-column_of (r.OffNode n) = Uncounted
-column_of (r.OnAlready n) = Uncounted
-column_of (r.Power n) = Power
-column_of (r.Fault n) = Fault
-column_of (r.Worn n) = Uncounted
-column_of (r.Damaged n) = Uncounted
-column_of (r.DevRefused d why) = Refused
-column_of (r.CentreRefused why) = Refused
-column_of (r.HostRefused why) = Refused
-column_of (r.ScanRefused why) = Refused
+column_of reply = column_by (report_of reply)
 
 pub record Tally : Type 0 where
   pub events : ℕ

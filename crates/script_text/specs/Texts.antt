@@ -1,12 +1,23 @@
--- The texts of the replies.
-use Rattle.std.specs.Prelude.{ℕ, List, ◌∷◌, [], Bool, true, false, Option, Some, None, codes, decimal}
+-- The texts of the replies, the ranges of the numbers in them, and what a text shows of its reply.
+use Rattle.std.specs.Prelude.{◌≡◌, ℕ, ◌<◌, ◌^◌, List, ◌∷◌, [], length, Bool, true, false, Option, Some, None, codes, decimal, FitsSigned}
+use Rattle.std.specs.Int.{w32}
 use Rattle.std.specs.Fmt.{signed_decimal}
 use Rattle.bench_base.specs.declared.words.Kind.{Kind}
 use Rattle.bench_base.specs.declared.words.Verdict.{Verdict}
 use Rattle.bench_base.specs.declared.words.Verdict.TheVariants.{Granted, NotEnrolled, EnrolledAlready, NoCustomer, Suspended, NoFunds, Imbalance}
+use Rattle.bench_base.specs.declared.refusals.ScanRefusal.{ScanRefusal}
+use Rattle.bench_base.specs.declared.refusals.ScanRefusal.TheVariants as scan
+use Rattle.bench_base.specs.declared.refusals.MarkFault.{MarkFault}
+use Rattle.bench_base.specs.declared.refusals.MarkFault.TheVariants as fault
 use Rattle.bench_base.specs.declared.events.Reply.{Reply}
 use Rattle.bench_base.specs.declared.events.Reply.TheVariants as reply
-use Rattle.script_text.specs.Refusals.{phase_word, dev_words, centre_words, host_words, scan_words}
+use Rattle.bench_base.specs.declared.questions.Refusal.TheVariants.{Verifier as OfVerifier}
+use Rattle.bench_base.specs.declared.questions.Report.{Report}
+use Rattle.bench_base.specs.declared.questions.Report.TheVariants as report
+use Rattle.bench_base.specs.Ranges.{IsDevice, IsCustomer, IsNode, IsWord, IsDay}
+use Rattle.bench_base.specs.Replies.{report_of}
+use Rattle.bench_base.specs.Table.{IsBytes}
+use Rattle.script_text.specs.Refusals.{phase_word, dev_words, centre_words, host_words, scan_words, dev_parts, centre_parts, host_parts, scan_parts, AreWhole}
 use Rattle.script_words.specs.Words.{joined, device_word, node_word, hex_word, kind_word, new_word}
 
 -- the number that a reply shows for a verdict
@@ -96,3 +107,78 @@ reply_words (reply.ScanRefused r) = codes "refused" ∷ codes "verifier" ∷ sca
 -- the text of a reply, without its line end
 abbrev pub text_of : Reply → List ℕ
 text_of r = joined (reply_words r)
+
+-- == the ranges of its numbers ==
+
+-- the amount in flight fits
+abbrev pub IsFlight : Option (Kind × ℕ) → Type 0
+IsFlight None = Unit {0}
+IsFlight (Some flight) = flight.1 < 2 ^ 64
+
+-- each number of the reply fits its type
+abbrev pub IsWholeReply : Reply → Type 0
+IsWholeReply (reply.Day t) = IsDay t
+IsWholeReply (reply.Rates classes zones) = IsWord classes × IsWord zones
+IsWholeReply reply.RatesFault = Unit {0}
+IsWholeReply reply.RatesLength = Unit {0}
+IsWholeReply reply.RatesToml = Unit {0}
+IsWholeReply reply.RatesForm = Unit {0}
+IsWholeReply (reply.Made d) = IsDevice d
+IsWholeReply (reply.Up n commits) = IsNode n × (commits < 2 ^ 64)
+IsWholeReply (reply.Down n) = IsNode n
+IsWholeReply (reply.CutSet n) = IsNode n
+IsWholeReply (reply.Marked d piece again mark) = IsDevice d × IsWord piece × ((length mark ≡ 64) × IsBytes mark)
+IsWholeReply (reply.SentRequest d number k) = IsDevice d × IsWord number × IsWord k
+IsWholeReply (reply.SentDone d number k) = IsDevice d × IsWord number × IsWord k
+IsWholeReply (reply.Registered d) = IsDevice d
+IsWholeReply (reply.Opened c) = IsCustomer c
+IsWholeReply (reply.Deposited c receipt again total) = IsCustomer c × IsWord receipt × (total < 2 ^ 64)
+IsWholeReply (reply.Balance c total) = IsCustomer c × (total < 2 ^ 64)
+IsWholeReply (reply.Ruled d number verdict again k) = IsDevice d × IsWord number × IsWord k
+IsWholeReply (reply.Settled d number again) = IsDevice d × IsWord number
+IsWholeReply (reply.Applied d number verdict) = IsDevice d × IsWord number
+IsWholeReply (reply.Released d piece again k) = IsDevice d × IsWord piece × IsWord k
+IsWholeReply (reply.Held j) = IsWord j
+IsWholeReply (reply.Ordered j postage) = IsWord j × IsWord postage
+IsWholeReply (reply.SentDebit j k) = IsWord j × IsWord k
+IsWholeReply (reply.Printed j) = IsWord j
+IsWholeReply (reply.PrinterFault j) = IsWord j
+IsWholeReply (reply.Closed j) = IsWord j
+IsWholeReply (reply.Trusted d) = IsDevice d
+IsWholeReply (reply.Accepted d piece scan again) = IsDevice d × IsWord piece × IsWord scan
+IsWholeReply reply.End = Unit {0}
+IsWholeReply reply.NoDay = Unit {0}
+IsWholeReply (reply.NoMessage k) = IsWord k
+IsWholeReply (reply.OffNode n) = IsNode n
+IsWholeReply (reply.OnAlready n) = IsNode n
+IsWholeReply (reply.Power n) = IsNode n
+IsWholeReply (reply.Fault n) = IsNode n
+IsWholeReply (reply.Worn n) = IsNode n
+IsWholeReply (reply.Damaged n) = IsNode n
+IsWholeReply (reply.Status d v) = IsDevice d × (v.ascending < 2 ^ 64) × (v.descending < 2 ^ 64) × (v.refunded < 2 ^ 64)
+    × IsWord v.pieces × IsWord v.number × FitsSigned w32 v.deadline
+IsWholeReply (reply.Flagged c suspended) = IsCustomer c
+IsWholeReply (reply.Reconciled d own centre flight) = IsDevice d × (own < 2 ^ 64) × (centre < 2 ^ 64) × IsFlight flight
+IsWholeReply (reply.DevRefused d r) = IsDevice d × AreWhole (dev_parts r)
+IsWholeReply (reply.CentreRefused r) = AreWhole (centre_parts r)
+IsWholeReply (reply.HostRefused r) = AreWhole (host_parts r)
+IsWholeReply (reply.ScanRefused r) = AreWhole (scan_parts r)
+
+-- a fault of a mark without its number
+abbrev pub told_fault : MarkFault → MarkFault
+told_fault (fault.Length n) = fault.Length 0
+told_fault (fault.Version n) = fault.Version 0
+told_fault (fault.Algorithm n) = fault.Algorithm 0
+
+abbrev pub told_refusal : ScanRefusal → ScanRefusal
+told_refusal (scan.Unread fault) = scan.Unread (told_fault fault)
+told_refusal r = r
+
+-- the reply of this report, if its text tells less than it has: the number in a fault of a mark
+abbrev pub told_as : Report → Reply → Reply
+told_as (report.Refusal (OfVerifier r)) x = reply.ScanRefused (told_refusal r)
+told_as _ x = x
+
+-- the reply as far as its text tells it
+abbrev pub told : Reply → Reply
+told x = told_as (report_of x) x

@@ -3,6 +3,7 @@ ghost use Rattle.std.specs.Prelude.{◌≡◌};
 ghost use Rattle.script_text.specs.Summaries as summaries;
 
 use bench_base::events::Reply;
+use bench_base::questions::Report;
 
 /// What a reply is counted as, beside its event.
 #[derive(Clone, Copy)]
@@ -15,56 +16,33 @@ pub enum Column {
     Uncounted,
 }
 
+// What is counted of a report.
+fn column_by(report: Report) -> Column
+    ensures { result ≡ summaries.column_by report }
+{
+    match report {
+        Report::Refusal(_) => Column::Refused,
+        Report::Power(_) => Column::Power,
+        Report::Fault(_) => Column::Fault,
+        Report::Release { .. } => Column::Released,
+        Report::Acceptance(false) => Column::Accepted,
+        Report::Acceptance(true)
+        | Report::Nothing
+        | Report::Day(_)
+        | Report::Rates
+        | Report::Mark { .. }
+        | Report::Message(_)
+        | Report::Debit { .. }
+        | Report::Ruling { .. }
+        | Report::Verdict(_)
+        | Report::Print(_)
+        | Report::Damage(_) => Column::Uncounted,
+    }
+}
+
 /// A refusal counts where its text begins with `refused`, a mark that is released each time, and an acceptance where it is new.
 pub fn column_of(reply: &Reply) -> Column
     ensures { result ≡ summaries.column_of reply.now }
 {
-    match reply {
-        Reply::DevRefused { .. }
-        | Reply::CentreRefused(_)
-        | Reply::HostRefused(_)
-        | Reply::ScanRefused(_) => Column::Refused,
-        Reply::Power(_) => Column::Power,
-        Reply::Fault(_) => Column::Fault,
-        Reply::Released { .. } => Column::Released,
-        Reply::Accepted { again: true, .. } => Column::Uncounted,
-        Reply::Accepted { again: false, .. } => Column::Accepted,
-        Reply::Day(_)
-        | Reply::Rates { .. }
-        | Reply::RatesFault
-        | Reply::RatesLength
-        | Reply::RatesToml
-        | Reply::RatesForm
-        | Reply::Made(_)
-        | Reply::Up { .. }
-        | Reply::Down(_)
-        | Reply::CutSet(_)
-        | Reply::Marked { .. }
-        | Reply::SentRequest { .. }
-        | Reply::SentDone { .. }
-        | Reply::Status { .. }
-        | Reply::Registered(_)
-        | Reply::Opened(_)
-        | Reply::Deposited { .. }
-        | Reply::Flagged { .. }
-        | Reply::Balance { .. }
-        | Reply::Ruled { .. }
-        | Reply::Settled { .. }
-        | Reply::Applied { .. }
-        | Reply::Held(_)
-        | Reply::Ordered { .. }
-        | Reply::SentDebit { .. }
-        | Reply::Printed(_)
-        | Reply::PrinterFault(_)
-        | Reply::Closed(_)
-        | Reply::Trusted(_)
-        | Reply::Reconciled { .. }
-        | Reply::End
-        | Reply::NoDay
-        | Reply::NoMessage(_)
-        | Reply::OffNode(_)
-        | Reply::OnAlready(_)
-        | Reply::Worn(_)
-        | Reply::Damaged(_) => Column::Uncounted,
-    }
+    column_by(reply.report())
 }

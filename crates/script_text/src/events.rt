@@ -1,7 +1,7 @@
 //! The event that a line of the script spells.
 ghost use Rattle.std.specs.Prelude.{[], ◌∷◌, ◌↔◌, ◌≡◌, Ok, IfOk, IfErr, IsTrue};
-ghost use Rattle.bench_base.specs.Ranges.{IsWholeEvent};
 ghost use Rattle.bench_base.specs.declared.events.Event.{Event};
+ghost use Rattle.bench_base.specs.Events.{IsWholeEvent};
 ghost use Rattle.script_text.specs.Grammar.{Spells, IsSkipped};
 ghost use Rattle.script_text.specs.Reading.{IsEventOf, IsEventBehind};
 ghost use Rattle.script_words.specs.Words.{words_in};

@@ -13,7 +13,7 @@ mod summary;
 
 pub use events::{is_skipped, read_event};
 pub use keyword::{Keyword, read_keyword};
-pub use program::{Words, read_words};
+pub use program::{Words, is_word, read_words};
 pub use replies::{put_reply, write_reply};
 pub use script_words::{Line, LineFault};
 pub use summary::{Summary, write_summary};

@@ -18,7 +18,8 @@ pub enum Words {
     Generate(u32, u32),
 }
 
-fn is_word(word: &String, wanted: &str) -> bool
+/// Whether the word that a program was called with is this one.
+pub fn is_word(word: &String, wanted: &str) -> bool
     ensures same { IsTrue result ↔ (string_bytes word.now ≡ wanted.now) }
 {
     word.as_str() == wanted

@@ -2,8 +2,7 @@
 ghost use Rattle.std.specs.Prelude.{◌≡◌, ◌+◌, ◌≤◌, ◌++◌, ◌∷◌, [], length, codes};
 ghost use Rattle.std.specs.Fmt.{signed_decimal};
 ghost use Rattle.script_words.specs.Words.{spaced};
-ghost use Rattle.script_text.specs.ReplyRanges.{IsWholeReply};
-ghost use Rattle.script_text.specs.Texts.{text_of, verdict_number, pending_word, flight_words};
+ghost use Rattle.script_text.specs.Texts.{text_of, verdict_number, pending_word, flight_words, IsWholeReply};
 ghost use Rattle.bench_base.specs.declared.events.Reply.{Reply};
 
 use crate::refusals::{

@@ -8,4 +8,4 @@ pub mod wide;
 pub mod word;
 
 pub use line::Line;
-pub use word::{LineFault, Word, after, five, four, one, split_word, three, two};
+pub use word::{LineFault, Word, after, five, four, is_word, one, split_word, three, two};

@@ -1,5 +1,5 @@
 //! The words of a line, and what each kind of word reads as.
-ghost use Rattle.std.specs.Prelude.{◌≡◌, ◌≢◌, ℕ, List, [], ◌∷◌, ◌++◌, ◌<◌, IfSome, IfNone, IfOk, OnErr, MatchOption};
+ghost use Rattle.std.specs.Prelude.{◌≡◌, ◌≢◌, ℕ, List, [], ◌∷◌, ◌++◌, ◌<◌, ◌↔◌, IsTrue, IfSome, IfNone, IfOk, OnErr, MatchOption};
 ghost use Rattle.script_words.specs.Words.{words_in};
 
 /// The line is none that can be read.
@@ -18,6 +18,13 @@ pub trait Word: Copy {
     fn read(word: &[u8]) -> Option<Self>
         ensures found { IfSome result (λ v. fits v × (word.now ≡ text v)) }
         ensures none { IfNone result ((v : Self) → fits v → word.now ≢ text v) };
+}
+
+/// Whether the word is this one.
+pub fn is_word(word: &[u8], wanted: &[u8]) -> bool
+    ensures { IsTrue result ↔ (word.now ≡ wanted.now) }
+{
+    word == wanted
 }
 
 /// The bytes before the first space, and those behind it; None where there is no space.

@@ -7,6 +7,7 @@ use Rattle.bench_base.specs.declared.events.Event.TheVariants as ev
 use Rattle.bench_base.specs.declared.events.Reply.{Reply}
 use Rattle.bench_base.specs.declared.refusals.StoreFail.{StoreFail}
 use Rattle.bench_base.specs.declared.refusals.StoreFail.TheVariants as fail
+use Rattle.bench_base.specs.Questions.{IsAccepted}
 use Rattle.indicium.specs.declared.Mark.{Mark}
 use Rattle.nv_model.specs.declared.nv.Nv as nv
 use Rattle.nv_store.specs.RoomView.{cells_of, kept_in}
@@ -26,7 +27,6 @@ use Rattle.spoil_claims.specs.Answers.{IsTold, IsCreditedNow, IsScanned, IsAgain
 use Rattle.spoil_claims.specs.Claims.{Claims, IsHere, claim_at, kept, last_claim, credits, mark_of, scan_number}
 use Rattle.spoil_claims.specs.ClaimsDesk.{claims_desk}
 use Rattle.spoil_claims.specs.Courses.{Either, row_for, as_credited, scan_of, Follows, Says, ByFailed, Scans, Repeats, ByKept, Begins, Credited, Scanned, GoesOn}
-use Rattle.scan_laws.specs.Acceptances.{IsAccepted}
 use Rattle.scan_laws.proofs.Accepting.{accepted_by}
 use Rattle.spoil_claims.specs.Payload.{decoded, spelled}
 use Rattle.spoil_claims.specs.Texts.{said_texts, credited_text, credits_text, wrong_claim_text}

@@ -12,6 +12,7 @@ use Rattle.bench_base.specs.Ledger.{Ledger, IsReleased, counted}
 use Rattle.bench_base.specs.Replies.{class_of}
 use Rattle.bench_base.specs.Rules.{todays_rules}
 use Rattle.bench_base.specs.Scans.{accepted}
+use Rattle.bench_base.specs.Questions.{IsAccepted}
 use Rattle.bench_base.proofs.Facts.{some_none}
 use Rattle.indicium.specs.declared.Mark.{Mark}
 use Rattle.indicium.specs.Marks.{read_mark}
@@ -38,7 +39,6 @@ use Rattle.spoil_claims.specs.ClaimLines.{IsScan, IsClaimLine}
 use Rattle.spoil_claims.specs.Claims.{Claims, IsHere, claim_at, kept, last_claim, mark_in, mark_of, scan_number}
 use Rattle.spoil_claims.specs.ClaimsDesk.{claims_desk}
 use Rattle.spoil_claims.specs.Courses.{Either, row_for, as_credited}
-use Rattle.scan_laws.specs.Acceptances.{IsAccepted}
 use Rattle.spoil_claims.specs.Holds.{IsCredited, IsClaimed, IsUsedUp, AreBacked}
 use Rattle.spoil_claims.specs.declared.claim.ClaimLine.{ClaimLine}
 use Rattle.spoil_claims.specs.declared.claim.ClaimLine.TheVariants.{Claim, Credits, Reserved}

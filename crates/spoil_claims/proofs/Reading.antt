@@ -2,17 +2,18 @@
 use Rattle.std.proofs.Common.{◌≡◌, inl, inr, ℕ, ◌<◌, List, [], ◌∷◌, length, get_or, Option, Some, None, refl, sym, subst, ◌∙◌, ap, arith}
 use Rattle.std.specs.Prelude.{codes, decimal, IfNone, IfSome, IsTrue, nat_lt}
 use Rattle.std.proofs.lemmas.Bool.Decides.{nat_tests}
-use Rattle.bench_base.specs.Ranges.{IsCustomer, IsWholeEvent}
+use Rattle.bench_base.specs.Questions.{IsScanUnder}
+use Rattle.bench_base.specs.Ranges.{IsCustomer}
 use Rattle.bench_base.specs.Table.{IsBytes}
+use Rattle.bench_base.specs.Events.{IsWholeEvent}
 use Rattle.bench_base.specs.declared.events.Event.{Event}
 use Rattle.bench_base.specs.declared.events.Event.TheVariants as ev
 use Rattle.script_text.specs.Grammar.{Spells}
 use Rattle.script_words.specs.Words.{words_in, hex_word, given_word}
-use Rattle.script_text.proofs.EventWords.{words_spelled}
-use Rattle.script_text.proofs.EventsBack.{one_event_of}
+use Rattle.script_text.proofs.EachEvent.{words_spelled, one_event_of}
 use Rattle.script_text.proofs.ReadBack.{given_in, given_again, given_is}
 use Rattle.line_extensions.specs.Events.{IsLineOf}
-use Rattle.spoil_claims.specs.ClaimLines.{IsClaim, IsClaimLine, IsScan, IsScanEvent}
+use Rattle.spoil_claims.specs.ClaimLines.{IsClaim, IsClaimLine, IsScan}
 use Rattle.spoil_claims.specs.declared.claim.ClaimLine.{ClaimLine}
 use Rattle.spoil_claims.specs.declared.claim.ClaimLine.TheVariants.{Claim, Credits, Reserved}
 
@@ -34,13 +35,13 @@ pub is_above : (n : ℕ) → 3000000000 < n → IsTrue (nat_lt 3000000000 n)
 is_above n lt = grind (arith, nat_tests)
 
 -- a line that is this scan
-scan_event : (m : ℕ) (line : List ℕ) → IsScan m line → (e : Event) × IsLineOf e line × IsScanEvent m e
+scan_event : (m : ℕ) (line : List ℕ) → IsScan m line → (e : Event) × IsLineOf e line × IsScanUnder m e
 scan_event m line scan = elim scan [
   | inl s ↦ (ev.ScanMsg m s.0, s.1, inl (s.0, refl))
   | inr s ↦ (ev.ScanHex m s.0, s.1, inr (s.0, refl))
 ]
 
-one_event_number : (e : Event) (m n : ℕ) → IsScanEvent m e → IsScanEvent n e → m ≡ n
+one_event_number : (e : Event) (m n : ℕ) → IsScanUnder m e → IsScanUnder n e → m ≡ n
 one_event_number e m n (inl a) (inl b) = let same : ev.ScanMsg m a.0 ≡ ev.ScanMsg n b.0 = sym a.1 ∙ b.1 in cc
 one_event_number e m n (inl a) (inr b) = let same : ev.ScanMsg m a.0 ≡ ev.ScanHex n b.0 = sym a.1 ∙ b.1 in cc
 one_event_number e m n (inr a) (inl b) = let same : ev.ScanHex m a.0 ≡ ev.ScanMsg n b.0 = sym a.1 ∙ b.1 in cc
@@ -48,20 +49,20 @@ one_event_number e m n (inr a) (inr b) = let same : ev.ScanHex m a.0 ≡ ev.Scan
 
 module _ (e : Event) (line : List ℕ) (is : IsWholeEvent e × Spells e line) where
   -- the scan of the line is that of its event
-  of_event : (m : ℕ) → IsScan m line → IsScanEvent m e
+  of_event : (m : ℕ) → IsScan m line → IsScanUnder m e
   of_event m scan =
       let s = scan_event m line scan in
-      subst (λ (x : Event). IsScanEvent m x) (one_event_of s.0 e line s.1.whole is.0 s.1.spells is.1) s.2
+      subst (λ (x : Event). IsScanUnder m x) (one_event_of s.0 e line s.1.whole is.0 s.1.spells is.1) s.2
 
-  of_line : (n : ℕ) → IsScanEvent n e → IsScan n line
+  of_line : (n : ℕ) → IsScanUnder n e → IsScan n line
   of_line n (inl a) = inl (a.0, subst (λ (x : Event). IsLineOf x line) a.1 (record { whole = is.0; spells = is.1 }))
   of_line n (inr a) = inr (a.0, subst (λ (x : Event). IsLineOf x line) a.1 (record { whole = is.0; spells = is.1 }))
 
-  pub scan_found : (r : Option ℕ) → IfSome r (λ n. IsScanEvent n e) → IfSome r (λ n. IsScan n line × ((m : ℕ) → IsScan m line → m ≡ n))
+  pub scan_found : (r : Option ℕ) → IfSome r (λ n. IsScanUnder n e) → IfSome r (λ n. IsScan n line × ((m : ℕ) → IsScan m line → m ≡ n))
   scan_found None found = tt
   scan_found (Some n) found = (of_line n found, λ m scan. one_event_number e m n (of_event m scan) found)
 
-  pub scan_none : (r : Option ℕ) → IfNone r ((n : ℕ) → IsScanEvent n e → ⊥) → IfNone r ((n : ℕ) → IsScan n line → ⊥)
+  pub scan_none : (r : Option ℕ) → IfNone r ((n : ℕ) → IsScanUnder n e → ⊥) → IfNone r ((n : ℕ) → IsScan n line → ⊥)
   scan_none None none = λ n scan. none n (of_event n scan)
   scan_none (Some n) none = tt
 

@@ -1,6 +1,7 @@
 -- What an own line is answered, by the claims that are kept and by the reply to its scan; and the claims after it.
 use Rattle.std.specs.Prelude.{◌≡◌, ◌⊎◌, ℕ, ◌+◌, ◌-◌, List, [], ◌∷◌, true, false, Option, Some, None, codes, ◌==◌}
 use Rattle.bench_base.specs.declared.events.Event.TheVariants as ev
+use Rattle.bench_base.specs.Questions.{IsAccepted}
 use Rattle.indicium.specs.declared.Mark.{Mark}
 use Rattle.node_acts.specs.RowList.{is_worn, put}
 use Rattle.script_text.specs.Texts.{text_of}
@@ -9,7 +10,6 @@ use Rattle.line_extensions.specs.SideTrace.{SideStep, Plain, Own, Broken}
 use Rattle.spoil_claims.specs.ClaimLines.{IsClaimLine}
 use Rattle.spoil_claims.specs.Claims.{Claims, IsHere, kept, scan_number, last_claim, mark_of, credits}
 use Rattle.spoil_claims.specs.Courses.{Either, IsSame, row_for, as_credited}
-use Rattle.scan_laws.specs.Acceptances.{IsAccepted}
 use Rattle.spoil_claims.specs.Texts.{credited_text, credits_text, wrong_claim_text}
 use Rattle.spoil_claims.specs.declared.claim.ClaimRow.{ClaimRow}
 use Rattle.spoil_claims.specs.declared.claim.ClaimLine.{ClaimLine}

@@ -2,7 +2,6 @@
 use Rattle.std.specs.Prelude.{◌≡◌, ◌<◌, ◌≤◌, ◌⊎◌, ℕ, List, [], ◌∷◌, length, codes, decimal, IsOk}
 use Rattle.bench_base.specs.Ranges.{IsWord, IsCustomer}
 use Rattle.bench_base.specs.Table.{IsBytes}
-use Rattle.bench_base.specs.declared.events.Event.{Event}
 use Rattle.bench_base.specs.declared.events.Event.TheVariants as ev
 use Rattle.indicium.specs.Marks.{read_mark}
 use Rattle.script_words.specs.Words.{words_in, hex_word}
@@ -13,10 +12,6 @@ use Rattle.spoil_claims.specs.declared.claim.ClaimLine.TheVariants.{Claim, Credi
 -- the line is that of a scan under this number
 abbrev pub IsScan : ℕ → List ℕ → Type 0
 IsScan n line = ((k : ℕ) × IsLineOf (ev.ScanMsg n k) line) ⊎ ((bytes : List ℕ) × IsLineOf (ev.ScanHex n bytes) line)
-
--- the event is a scan under this number
-abbrev pub IsScanEvent : ℕ → Event → Type 0
-IsScanEvent n e = ((k : ℕ) × (e ≡ ev.ScanMsg n k)) ⊎ ((bytes : List ℕ) × (e ≡ ev.ScanHex n bytes))
 
 -- a claim is counted from 1, and its mark reads
 pub record IsClaim (c w : ℕ) (mark : List ℕ) : Type 0 where

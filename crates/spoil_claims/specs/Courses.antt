@@ -4,10 +4,10 @@ use Rattle.bench_base.specs.declared.events.Event.TheVariants as ev
 use Rattle.bench_base.specs.declared.events.Reply.{Reply}
 use Rattle.bench_base.specs.declared.refusals.StoreFail.{StoreFail}
 use Rattle.bench_base.specs.declared.refusals.StoreFail.TheVariants as fail
+use Rattle.bench_base.specs.Questions.{IsAccepted}
 use Rattle.indicium.specs.declared.Mark.{Mark}
 use Rattle.nv_model.specs.declared.nv.Nv.{Ghosts}
 use Rattle.nv_store.specs.Fails.{ends_failed}
-use Rattle.scan_laws.specs.Acceptances.{IsAccepted}
 use Rattle.line_extensions.specs.declared.extension.Next.{Next}
 use Rattle.line_extensions.specs.declared.extension.Next.TheVariants.{Step, Say, Stop}
 use Rattle.row_store.specs.Commits.{CommitsRow}

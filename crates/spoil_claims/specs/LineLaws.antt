@@ -5,7 +5,7 @@ use Rattle.bench_base.specs.declared.events.Event.{Event}
 use Rattle.bench_base.specs.declared.events.Event.TheVariants as ev
 use Rattle.script_words.specs.Words.{joined, hex_word}
 use Rattle.script_text.specs.Grammar.{IsSkipped}
-use Rattle.script_text.proofs.EventsBack.{one_event_of, no_event_skipped}
+use Rattle.script_text.proofs.EachEvent.{one_event_of, no_event_skipped}
 use Rattle.line_extensions.specs.Events.{IsLineOf}
 use Rattle.line_extensions.specs.Wants.{IsAlone}
 use Rattle.spoil_claims.specs.ClaimLines.{IsClaimLine}

@@ -1,7 +1,7 @@
 //! What the desk does for a claim: before its scan, and after it.
 ghost use Rattle.std.specs.Prelude.{◌≡◌, ◌⊎◌, ◌↔◌, ◌-◌, ◌≤◌, Some, None, IfSome, IsOk, IsTrue, length};
-ghost use Rattle.bench_base.specs.Ranges.{IsWholeEvent};
 ghost use Rattle.bench_base.specs.declared.events.Event.TheVariants as ev;
+ghost use Rattle.bench_base.specs.Events.{IsWholeEvent};
 ghost use Rattle.line_extensions.specs.Wants.{MayAsk, IsStep};
 ghost use Rattle.node_acts.specs.RowList.{put};
 ghost use Rattle.indicium.specs.Marks.{read_mark};
@@ -26,7 +26,6 @@ use indicium::{Mark, read_indicium};
 use line_extensions::Next;
 use nv_model::Nv;
 use row_store::{commit_row, row_in};
-use scan_laws::accepted::is_accepted;
 
 // The mark of bytes that read as one.
 fn mark_in(bytes: &[u8; 64]) -> Mark
@@ -219,7 +218,7 @@ impl<N: Nv> Desk<N> {
         let Some(row) = self.kept(claim) else {
             unreachable!()
         };
-        if is_accepted(told) {
+        if told.is_accepted() {
             self.credit(&row)
         } else {
             self.say(Answer::Scan(*told))

@@ -3,17 +3,16 @@ ghost use Rattle.std.specs.Prelude.{◌≡◌, ◌<◌, ◌↔◌, ℕ, List, []
 ghost use Rattle.bench_base.specs.Ranges.{IsCustomer};
 ghost use Rattle.indicium.specs.Marks.{read_mark};
 ghost use Rattle.script_words.specs.Words.{words_in, hex_word};
-ghost use Rattle.spoil_claims.specs.ClaimLines.{IsClaim, IsClaimLine, IsScan, IsScanEvent};
+ghost use Rattle.spoil_claims.specs.ClaimLines.{IsClaim, IsClaimLine, IsScan};
 ghost use Rattle.spoil_claims.specs.declared.claim.ClaimLine.{ClaimLine as TheLine};
 ghost use Rattle.spoil_claims.specs.declared.claim.ClaimLine.TheVariants as own;
 
 use crate::claim::ClaimLine;
 use bench_base::bytes::Given;
-use bench_base::events::Event;
 use bench_base::numbers::Customer;
 use indicium::read_indicium;
 use script_text::read_event;
-use script_words::{one, split_word, three};
+use script_words::{is_word, one, split_word, three};
 
 /// Scans above this number are those of claims.
 pub const LAST_SCAN: u32 = 3_000_000_000;
@@ -63,49 +62,13 @@ fn read_credits(rest: &[u8]) -> Option<ClaimLine>
     }
 }
 
-// The number of a scan.
-fn scan_number(event: &Event) -> Option<u32>
-    ensures found { IfSome result (λ n. IsScanEvent n event.now) }
-    ensures none { IfNone result ((n : ℕ) → IsScanEvent n event.now → ⊥) }
-{
-    match event {
-        Event::ScanMsg { scan: number, .. } => Some(*number),
-        Event::ScanHex { scan: number, .. } => Some(*number),
-        Event::Day(_)
-        | Event::Rates
-        | Event::Make { .. }
-        | Event::On(_)
-        | Event::Off(_)
-        | Event::Cut { .. }
-        | Event::Debit { .. }
-        | Event::Ask { .. }
-        | Event::Resend(_)
-        | Event::Ack(_)
-        | Event::Status(_)
-        | Event::Register { .. }
-        | Event::OpenCustomer(_)
-        | Event::Deposit { .. }
-        | Event::Flag { .. }
-        | Event::Balance(_)
-        | Event::Deliver(_)
-        | Event::Give { .. }
-        | Event::Order { .. }
-        | Event::Send(_)
-        | Event::Print(_)
-        | Event::Close(_)
-        | Event::Trust { .. }
-        | Event::Reconcile(_)
-        | Event::End => None,
-    }
-}
-
 // The number of the scan that the line is.
 fn scan_in(line: &[u8]) -> Option<u32>
     ensures found { IfSome result (λ n. IsScan n line.now × ((m : ℕ) → IsScan m line.now → m ≡ n)) }
     ensures none { IfNone result ((n : ℕ) → IsScan n line.now → ⊥) }
 {
     match read_event(line) {
-        Ok(event) => scan_number(&event),
+        Ok(event) => event.scan_number(),
         Err(_) => None,
     }
 }
@@ -118,12 +81,6 @@ fn is_reserved(line: &[u8]) -> bool
         Some(number) => number > LAST_SCAN,
         None => false,
     }
-}
-
-fn is_word(word: &[u8], wanted: &[u8]) -> bool
-    ensures { IsTrue result ↔ (word.now ≡ wanted.now) }
-{
-    word == wanted
 }
 
 // The line of the desk that begins with this word.

@@ -1,5 +1,5 @@
 //! The lines of a statement out of their bytes.
-ghost use Rattle.std.specs.Prelude.{◌≡◌, ◌≢◌, ◌↔◌, ℕ, [], ◌∷◌, codes, decimal, IfSome, IfNone, IsTrue};
+ghost use Rattle.std.specs.Prelude.{◌≡◌, ◌≢◌, ℕ, [], ◌∷◌, codes, decimal, IfSome, IfNone};
 ghost use Rattle.bench_base.specs.Ranges.{IsCustomer, IsDevice, IsWord};
 ghost use Rattle.script_words.specs.Words.{words_in, device_word};
 ghost use Rattle.statement_check.specs.Lines.{IsMills, IsInRange, IsLineOf, line_words};
@@ -11,7 +11,7 @@ ghost use Rattle.statement_check.specs.declared.line.Cause.TheVariants as causes
 use crate::line::{Cause, Movement, StatementLine};
 use crate::words::{BalanceWord, OpeningWord};
 use bench_base::numbers::{Customer, DevNo};
-use script_words::{five, four, one, split_word, three};
+use script_words::{five, four, is_word, one, split_word, three};
 
 /// Which ruling moved money.
 #[derive(Clone, Copy)]
@@ -95,12 +95,6 @@ fn read_closing(rest: &[u8]) -> Option<StatementLine>
         Ok(balance) => Some(StatementLine::Closing(balance)),
         Err(_) => None,
     }
-}
-
-fn is_word(word: &[u8], wanted: &[u8]) -> bool
-    ensures { IsTrue result ↔ (word.now ≡ wanted.now) }
-{
-    word == wanted
 }
 
 // The line that begins with this word.

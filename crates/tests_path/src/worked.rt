@@ -1,8 +1,8 @@
 //! A bench over storages in memory, and what a run over it answers.
 ghost use Rattle.std.specs.Prelude.{◌≡◌, ◌≤◌, [], IfOk, length};
 ghost use Rattle.std.specs.List.{All};
+ghost use Rattle.bench_base.specs.Events.{IsWholeEvent};
 ghost use Rattle.bench.specs.Benches.{IsReady, bench_of};
-ghost use Rattle.bench_base.specs.Ranges.{IsWholeEvent};
 ghost use Rattle.nv_model.specs.Meters.{Works};
 
 use bench::{Bench, Stores, step};

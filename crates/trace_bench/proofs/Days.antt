@@ -8,7 +8,7 @@ use Rattle.bench_base.specs.declared.events.Event.{Event}
 use Rattle.bench_base.specs.declared.events.Event.TheVariants as ev
 use Rattle.bench_base.specs.declared.events.Reply.{Reply}
 use Rattle.bench_base.specs.declared.events.Reply.TheVariants as r
-use Rattle.bench_base.specs.Events.{needs_day, takes_rates}
+use Rattle.bench_base.specs.Events.{needs_day, takes_rates, IsWholeEvent}
 use Rattle.bench_base.specs.Plans.{refuse, told}
 use Rattle.node_acts.specs.declared.act.Act.TheVariants.{Refuse, Tell, Commits}
 use Rattle.node_acts.specs.Kinds.{view_in}
@@ -26,7 +26,7 @@ use Rattle.bench_abstraction.specs.Comparing.{stood, compared, compare}
 use Rattle.bench_abstraction.specs.Follows.{OthersAreQuiet, quiet_by}
 use Rattle.bench_abstraction.specs.Kinds.{bench_kinds}
 use Rattle.bench_base.specs.Rules.{todays_rules, editions}
-use Rattle.bench_base.specs.Ranges.{IsWholeEvent, IsDevice}
+use Rattle.bench_base.specs.Ranges.{IsDevice}
 use Rattle.bench_base.specs.Ledger.{Ledger, day_in}
 use Rattle.ledger_moves.specs.Tariffs.{Tariff}
 use Rattle.ledger_moves.specs.Moves.{FailsToRead, plan}
@@ -35,7 +35,7 @@ use Rattle.bench_abstraction.specs.declared.routing.OfDay.{OfDay}
 use Rattle.bench_abstraction.specs.declared.routing.OfDay.TheVariants as of_day
 use Rattle.bench_abstraction.specs.Tariff.{IsOfTexts, quote}
 use Rattle.bench_abstraction.specs.Routing.{routed}
-use Rattle.bench_abstraction.proofs.OfNone.{plan_day, plan_end, plan_none}
+use Rattle.bench_abstraction.proofs.Quiet.{plan_day, plan_end, plan_none}
 use Rattle.bench.proofs.Making.{get_some}
 use Rattle.trace_bench.specs.declared.judging.Heard.{Heard}
 use Rattle.trace_bench.specs.declared.judging.Finding.{Finding}

@@ -11,7 +11,9 @@ use Rattle.bench_base.specs.declared.refusals.Unread.{Unread}
 use Rattle.bench_base.specs.declared.refusals.MarkFault.{MarkFault}
 use Rattle.bench_base.specs.declared.ledger.Commit.{Commit}
 use Rattle.bench_base.specs.declared.ledger.Commit.TheVariants as c
-use Rattle.bench_base.specs.Events.{Brought, Nothing, brought_by}
+use Rattle.bench_base.specs.declared.questions.Brought.{Brought}
+use Rattle.bench_base.specs.declared.questions.Brought.TheVariants.{Nothing}
+use Rattle.bench_base.specs.Events.{brought_by}
 use Rattle.bench_base.specs.Ranges.{IsDevice, InRange}
 use Rattle.bench_base.specs.Ledger.{Ledger, IsSent, IsReleased, counted}
 use Rattle.bench_base.specs.Scans.{trusted}

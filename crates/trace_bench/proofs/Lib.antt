@@ -6,7 +6,6 @@ mod Keeping
 mod Lifting
 mod Nodes
 mod OfRates
-pub mod OnlyPrint
 mod Printing
 mod Quiet
 pub mod Same

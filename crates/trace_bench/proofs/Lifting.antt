@@ -8,8 +8,7 @@ use Rattle.bench_base.specs.Rules.{todays_rules}
 use Rattle.bench_base.specs.Ledger.{Ledger, day_in}
 use Rattle.ledger_moves.specs.Tariffs.{Tariff}
 use Rattle.ledger_moves.specs.Moves.{Moves, answer, entries}
-use Rattle.script_text.specs.Texts.{text_of}
-use Rattle.script_text.specs.ReplyRanges.{IsWholeReply}
+use Rattle.script_text.specs.Texts.{text_of, IsWholeReply}
 use Rattle.trace_views.specs.Verdicts.{Adds}
 use Rattle.bench_base.specs.Events.{takes_rates}
 use Rattle.trace_bench.specs.Judging.{taken_by, text_with, ledger_with, IsToldBy, IsUntoldBy}

@@ -2,9 +2,9 @@
 use Rattle.std.proofs.Common.{◌≡◌, ℕ, ℤ, List, [], Option, Some, None, refl, sym, ◌∙◌, ap}
 use Rattle.bench_base.specs.declared.events.Event.TheVariants as ev
 use Rattle.bench_base.specs.Plans.{Plan}
-use Rattle.bench_base.specs.Ranges.{IsWholeEvent}
 use Rattle.bench_base.specs.Rules.{todays_rules, editions}
 use Rattle.bench_base.specs.Ledger.{Ledger}
+use Rattle.bench_base.specs.Events.{IsWholeEvent}
 use Rattle.node_acts.specs.declared.asked.Asked.TheVariants.{Call}
 use Rattle.node_turns.specs.Printing.{print_of}
 use Rattle.ledger_moves.specs.Tariffs.{Tariff}
@@ -14,7 +14,7 @@ use Rattle.trace_host.specs.Records.{printing}
 use Rattle.trace_host.specs.Cells as host
 use Rattle.trace_host.specs.Verdicts.{AtHosts}
 use Rattle.trace_bench.specs.Seeing.{Audit, Sees}
-use Rattle.bench_abstraction.proofs.OfNone.{plan_none}
+use Rattle.bench_abstraction.proofs.Quiet.{plan_none}
 
 module _ (a : Audit) (j : ℕ) (τ : Tariff) (H : Ledger) (sees : Sees a H) where
   pub undated_none : a.day ≡ None → print_of (plan τ todays_rules H (ev.Print j) []).after ≡ None

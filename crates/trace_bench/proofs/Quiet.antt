@@ -7,8 +7,8 @@ use Rattle.bench_base.specs.declared.events.Reply.TheVariants as r
 use Rattle.bench_base.specs.Plans.{Plan}
 use Rattle.bench_base.specs.Replies.{ReplyClass, Did, Refused, Armed, CameOn, WentOff, LostPower, Faulted, WasDamaged, PrinterFailed, RatesFailed, class_of}
 use Rattle.bench_base.specs.Rules.{todays_rules}
-use Rattle.bench_base.specs.Ranges.{IsWholeEvent}
 use Rattle.bench_base.specs.Ledger.{Ledger, day_in}
+use Rattle.bench_base.specs.Events.{IsWholeEvent}
 use Rattle.node_acts.specs.Plans.{Fails, FailsTold, after}
 use Rattle.ledger_moves.specs.Tariffs.{Tariff}
 use Rattle.ledger_moves.specs.Moves.{Moves, FailsToRead, plan, entries}

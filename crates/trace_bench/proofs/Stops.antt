@@ -9,21 +9,21 @@ use Rattle.bench_base.specs.declared.words.Node.TheVariants.{Device, Centre, Hos
 use Rattle.bench_base.specs.declared.events.Event.{Event}
 use Rattle.bench_base.specs.declared.events.Reply.{Reply}
 use Rattle.bench_base.specs.declared.events.Reply.TheVariants as r
-use Rattle.bench_base.specs.Ranges.{IsNode, IsWholeEvent}
+use Rattle.bench_base.specs.Ranges.{IsNode}
 use Rattle.bench_base.specs.Replies.{Did, class_of, fails_to_read}
 use Rattle.bench_base.specs.Rules.{todays_rules}
 use Rattle.bench_base.specs.Ledger.{Ledger, day_in}
 use Rattle.node_acts.specs.Plans.{Fails}
 use Rattle.ledger_moves.specs.Tariffs.{Tariff}
 use Rattle.ledger_moves.specs.Moves.{plan, answer, OtherUp}
-use Rattle.script_text.specs.Texts.{text_of}
-use Rattle.script_text.specs.ReplyRanges.{IsWholeReply, told}
-use Rattle.bench_base.specs.Events.{takes_rates}
+use Rattle.script_text.specs.Texts.{text_of, IsWholeReply, told}
+use Rattle.bench_base.specs.Events.{takes_rates, IsWholeEvent}
 use Rattle.trace_bench.specs.Judging.{taken_by, text_with, MayGet, ledger_with, IsTold}
 use Rattle.trace_bench.specs.Seeing.{Audit, Sees}
 use Rattle.trace_bench.specs.Stopping.{IsPrefixOf, MayBegin, MayFail, MayComeOn, IsInDoubt, unanswered, failed, either_up, done, torn, rests, IsDoneWith, IsBegun, IsUnbegun}
 use Rattle.trace_bench.specs.Prefixes.{number_of, BeginsOtherUp, BeginsCutPrint, BeginsRatesFault, BeginsBothUps, BeginsFailure, IsFailure, IsDue, OnlyFails, Comes, MayLose, LosesAt, LosesThere, NoneBelow, Loses}
-use Rattle.trace_bench.proofs.OnlyPrint.{only_print, is_failure}
+use Rattle.scan_laws.proofs.Tells.{is_failure}
+use Rattle.scan_laws.proofs.Plans.{plan_says}
 
 -- two nodes of one number are one
 pub one_node : (m n : Node) → IsNode m → IsNode n → number_of m ≡ number_of n → m ≡ n
@@ -116,7 +116,7 @@ module _ (τ : Tariff) (H : Ledger) (e : Event) (left prefix : List ℕ) where
   fine_text reply fine = ap (λ (b : Bool). if takes_rates e && (is_some (day_in H) && not b) then take 65537 left else []) fine
 
   answers_fine : (t : List ℕ) → is_failure (answer τ todays_rules H e t) ≡ false
-  answers_fine t = (only_print τ todays_rules H e t).unfailed
+  answers_fine t = (plan_says H τ e t).unfailed
 
   -- no answer is a failure
   never : (x : Reply) (t : List ℕ) → is_failure x ≡ true → x ≡ answer τ todays_rules H e t → {P : Type 0} → P

@@ -5,7 +5,9 @@ use Rattle.bench_base.specs.declared.words.Node.TheVariants.{Device, Centre, Hos
 use Rattle.bench_base.specs.declared.refusals.Unread.{Unread}
 use Rattle.bench_base.specs.declared.refusals.MarkFault.{MarkFault}
 use Rattle.bench_base.specs.declared.events.Event.{Event}
-use Rattle.bench_base.specs.Events.{Brought, Nothing, Handed, Scanned, brought_by}
+use Rattle.bench_base.specs.declared.questions.Brought.{Brought}
+use Rattle.bench_base.specs.declared.questions.Brought.TheVariants.{Nothing, Handed, Scanned}
+use Rattle.bench_base.specs.Events.{brought_by}
 use Rattle.bench_base.specs.Ledger.{Ledger}
 use Rattle.bench_base.specs.Rules.{editions}
 use Rattle.indicium.specs.declared.Mark.{Mark}
@@ -24,8 +26,6 @@ use Rattle.ledger_moves.specs.Histories.{History, Unforged}
 use Rattle.trace_device.specs.Records.{seen_of}
 use Rattle.trace_centre.specs.Cells as centre_cells
 use Rattle.trace_verifier.specs.Cells as verifier_cells
-use Rattle.trace_bench.specs.declared.forging.Brings.{Brings}
-use Rattle.trace_bench.specs.declared.forging.Brings.TheVariants as brings
 use Rattle.trace_bench.specs.declared.known.ByteSet.{ByteSet}
 use Rattle.trace_bench.specs.declared.known.Known.{Known}
 use Rattle.trace_bench.specs.Known.{has, IsAllFound, KeepsSame}
@@ -72,14 +72,6 @@ forged_release known (Err x) = false
 abbrev pub forged_mark : verifier.Seen → List ℕ → ByteSet (List ℕ) → Result (Mark × List ℕ) MarkFault → Bool
 forged_mark s bytes known (Ok k) = is_unknown bytes (key_at s k.0.device) known
 forged_mark s bytes known (Err fault) = false
-
--- == what is brought ==
-
--- what an event brings, as `brought` answers it
-abbrev pub brought_as : Brings → Brought
-brought_as brings.Nothing = Nothing
-brought_as (brings.Handed n bytes) = Handed n bytes
-brought_as (brings.Scanned bytes) = Scanned bytes
 
 -- == before it is asked ==
 

@@ -10,8 +10,7 @@ use Rattle.ledger_moves.specs.Tariffs.{Tariff}
 use Rattle.ledger_moves.specs.Moves.{Moves, answer, entries}
 use Rattle.ledger_moves.specs.Histories.{History, Unforged}
 use Rattle.bench_abstraction.specs.Tariff.{IsOfTexts}
-use Rattle.script_text.specs.Texts.{text_of}
-use Rattle.script_text.specs.ReplyRanges.{IsWholeReply}
+use Rattle.script_text.specs.Texts.{text_of, IsWholeReply}
 use Rattle.trace_bench.specs.declared.judging.Heard.{Heard}
 use Rattle.trace_bench.specs.declared.judging.Finding.{Finding}
 use Rattle.trace_bench.specs.declared.judging.Finding.TheVariants.{Wrong, Memory}

@@ -1,8 +1,7 @@
 -- A line beside the one answer to an event that neither sends nor takes rates.
 use Rattle.std.specs.Prelude.{◌≡◌, ◌≢◌, List, ℕ, None, Option, Result, Ok, Err}
 use Rattle.bench_base.specs.declared.events.Reply.{Reply}
-use Rattle.script_text.specs.Texts.{text_of}
-use Rattle.script_text.specs.ReplyRanges.{IsWholeReply}
+use Rattle.script_text.specs.Texts.{text_of, IsWholeReply}
 use Rattle.trace_nodes.specs.declared.giving.GaveOut.{GaveOut}
 use Rattle.trace_nodes.specs.declared.printing.PrintOutcome.{PrintOutcome}
 use Rattle.trace_bench.specs.declared.judging.Heard.{Heard}

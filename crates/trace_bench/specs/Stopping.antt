@@ -9,8 +9,7 @@ use Rattle.bench_base.specs.Rules.{todays_rules}
 use Rattle.bench_base.specs.Ledger.{Ledger, day_in}
 use Rattle.ledger_moves.specs.Tariffs.{Tariff}
 use Rattle.ledger_moves.specs.Moves.{answer}
-use Rattle.script_text.specs.Texts.{text_of}
-use Rattle.script_text.specs.ReplyRanges.{IsWholeReply}
+use Rattle.script_text.specs.Texts.{text_of, IsWholeReply}
 use Rattle.trace_bench.specs.declared.judging.Finding.{Finding}
 use Rattle.trace_bench.specs.declared.judging.Finding.TheVariants.{Wrong, Memory}
 use Rattle.trace_bench.specs.Judging.{MayGet, ledger_with, taken_by}

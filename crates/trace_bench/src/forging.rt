@@ -1,46 +1,39 @@
 //! Whether an event brings forged bytes from outside, and what makes that quick.
 ghost use Rattle.std.specs.Prelude.{◌≡◌, ◌≢◌, Some, IfSome, IfNone, IsTrue, IsFalse, MatchBool, OnOk, option_map};
-ghost use Rattle.bench_base.specs.Events.{Nothing, brought_by};
+ghost use Rattle.bench_base.specs.Events.{brought_by};
+ghost use Rattle.bench_base.specs.declared.questions.Brought.TheVariants.{Nothing};
 ghost use Rattle.indicium.specs.Marks.{read_mark};
-ghost use Rattle.psd_wire.specs.Codes.{has_code};
 ghost use Rattle.psd_wire.specs.Grammar.{read};
 ghost use Rattle.trace_centre.specs.Cells.{cells_of};
 ghost use Rattle.trace_device.specs.Records.{seen_of};
 ghost use Rattle.trace_verifier.specs.Cells as scans;
 ghost use Rattle.trace_bench.specs.Forging as forging;
-ghost use Rattle.trace_bench.specs.Forging.{GivesForged, BringsForged, TellsForged, IsFoundFor, IsSame, brought_as};
+ghost use Rattle.trace_bench.specs.Forging.{GivesForged, BringsForged, TellsForged, IsFoundFor, IsSame};
 ghost use Rattle.trace_bench.specs.Seeing.{IsReady, audit_of, keeps};
 ghost use Rattle.trace_bench.specs.Telling.{OfDevice};
 
 use crate::auditor::Auditor;
 use crate::known::ByteSet;
 use crate::telling::traced_of;
-use bench_abstraction::Handed;
 use bench_base::bytes::Note;
 use bench_base::events::Event;
 use bench_base::numbers::DevNo;
+use bench_base::questions::Brought;
 use bench_base::words::Node;
 use centre_ledger::Accounts;
 use hmac_core::ReadyKey;
 use indicium::read_indicium;
 use ledger_laws::laws::{counts, histories};
 use psd_state::ReadyRecord;
-use psd_wire::{Message, code_matches_by, read_message};
+use psd_wire::{Message, is_own_code, read_message};
 use std::alloc::{AllocError, Global};
 use trace_verifier::ScanRecord;
-
-// Whether the last 32 bytes are the code, under the key, of all before them.
-fn has_right_code(bytes: &[u8], key: &ReadyKey) -> bool
-    ensures { result ≡ has_code key.now bytes.now }
-{
-    code_matches_by(bytes, key)
-}
 
 // Whether the bytes have the code of this key and are not known.
 fn is_unknown(bytes: &[u8], key: &ReadyKey, known: &ByteSet<Note>) -> bool
     ensures { result ≡ forging.is_unknown bytes.now (Some key.now) known.now }
 {
-    has_right_code(bytes, key) && !known.has(bytes)
+    is_own_code(bytes, key) && !known.has(bytes)
 }
 
 // Whether the bytes have the code of the device of this record and are not known.
@@ -114,7 +107,7 @@ fn is_forged_mark(rows: &ScanRecord, bytes: &[u8], known: &ByteSet<[u8; 64]>) ->
 {
     match &read_indicium(bytes) {
         Ok((mark, _)) => match rows.key(mark.device) {
-            Some(key) => has_right_code(bytes, key) && !known.has(bytes),
+            Some(key) => is_own_code(bytes, key) && !known.has(bytes),
             None => false,
         },
         Err(_) => false,
@@ -138,48 +131,6 @@ fn gives_forged(auditor: &Auditor, node: &Node, bytes: &[u8]) -> bool
     }
 }
 
-// What an event brings from outside: bytes that are handed to a node, or that are scanned.
-#[derive(Drop)]
-enum Brings<'a> {
-    Nothing,
-    Handed(Node, Handed<'a>),
-    Scanned(Handed<'a>),
-}
-
-fn brought(event: &Event) -> Brings<'_>
-    ensures { brought_as result ≡ brought_by event.now }
-{
-    match event {
-        Event::Give { node, bytes } => Brings::Handed(*node, Handed::new(bytes.as_slice())),
-        Event::ScanHex { bytes, .. } => Brings::Scanned(Handed::new(bytes.as_slice())),
-        Event::Day(_)
-        | Event::Rates
-        | Event::Make { .. }
-        | Event::On(_)
-        | Event::Off(_)
-        | Event::Cut { .. }
-        | Event::Debit { .. }
-        | Event::Ask { .. }
-        | Event::Resend(_)
-        | Event::Ack(_)
-        | Event::Status(_)
-        | Event::Register { .. }
-        | Event::OpenCustomer(_)
-        | Event::Deposit { .. }
-        | Event::Flag { .. }
-        | Event::Balance(_)
-        | Event::Deliver(_)
-        | Event::Order { .. }
-        | Event::Send(_)
-        | Event::Print(_)
-        | Event::Close(_)
-        | Event::Trust { .. }
-        | Event::ScanMsg { .. }
-        | Event::Reconcile(_)
-        | Event::End => Brings::Nothing,
-    }
-}
-
 /// Puts what was sent and released since it was last asked for to where each is found by its hash, if `is_forged` asks for it of this event. What the auditor has stays
 /// the same, also where there is no memory; and so does what `is_forged` answers, which walks whatever was not put there.
 pub fn index(alloc: Global, auditor: &mut Auditor, event: &Event) -> Result<(), AllocError>
@@ -189,13 +140,13 @@ pub fn index(alloc: Global, auditor: &mut Auditor, event: &Event) -> Result<(), 
     ensures same { IsSame (audit_of auditor.old) (audit_of auditor.new) }
     ensures found { OnOk result (IsFoundFor event.now (audit_of auditor.new).known) }
 {
-    match &brought(event) {
-        Brings::Handed(_, _) => {
+    match &event.brings() {
+        Brought::Handed(_, _) => {
             auditor.known.sent.index(alloc)?;
             auditor.known.released.index(alloc)
         }
-        Brings::Scanned(_) => auditor.known.released.index(alloc),
-        Brings::Nothing => Ok(()),
+        Brought::Scanned(_) => auditor.known.released.index(alloc),
+        Brought::Nothing => Ok(()),
     }
 }
 
@@ -209,14 +160,14 @@ fn brings_forged(auditor: &Auditor, event: &Event) -> bool
     // The devices in a history are eight.
     histories();
     counts();
-    match &brought(event) {
-        Brings::Handed(node, bytes) => gives_forged(auditor, node, bytes.as_slice()),
-        Brings::Scanned(bytes) => is_forged_mark(
+    match &event.brings() {
+        Brought::Handed(node, bytes) => gives_forged(auditor, node, bytes.as_slice()),
+        Brought::Scanned(bytes) => is_forged_mark(
             &auditor.verifier.record,
             bytes.as_slice(),
             &auditor.known.released,
         ),
-        Brings::Nothing => false,
+        Brought::Nothing => false,
     }
 }
 
@@ -224,10 +175,10 @@ fn brings_forged(auditor: &Auditor, event: &Event) -> bool
 fn brings_nothing(event: &Event) -> bool
     ensures { MatchBool result (brought_by event.now ≡ Nothing) (brought_by event.now ≢ Nothing) }
 {
-    match &brought(event) {
-        Brings::Nothing => true,
-        Brings::Handed(_, _) => false,
-        Brings::Scanned(_) => false,
+    match &event.brings() {
+        Brought::Nothing => true,
+        Brought::Handed(_, _) => false,
+        Brought::Scanned(_) => false,
     }
 }
 

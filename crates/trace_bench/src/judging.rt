@@ -1,6 +1,7 @@
 //! Whether a line of the report can be the reply to an event.
 ghost use Rattle.std.specs.Prelude.{◌≡◌, ◌+◌, ◌<◌, ◌≤◌, length};
-ghost use Rattle.bench_base.specs.Ranges.{IsDevice, IsWholeEvent};
+ghost use Rattle.bench_base.specs.Ranges.{IsDevice};
+ghost use Rattle.bench_base.specs.Events.{IsWholeEvent};
 ghost use Rattle.bench_abstraction.specs.Centre as centres;
 ghost use Rattle.bench_abstraction.specs.Verifier as verifiers;
 ghost use Rattle.bench.specs.declared.benches.TheConstants.{MOST_MESSAGES};

@@ -2,8 +2,8 @@
 ghost use Rattle.std.specs.Prelude.{◌≡◌, []};
 ghost use Rattle.bench_base.specs.declared.events.Event.TheVariants.{Print};
 ghost use Rattle.bench_base.specs.Ledger.{Ledger};
-ghost use Rattle.bench_base.specs.Ranges.{IsWholeEvent};
 ghost use Rattle.bench_base.specs.Rules.{todays_rules, editions};
+ghost use Rattle.bench_base.specs.Events.{IsWholeEvent};
 ghost use Rattle.ledger_moves.specs.Histories.{History};
 ghost use Rattle.ledger_moves.specs.Moves.{plan};
 ghost use Rattle.ledger_moves.specs.Tariffs.{Tariff};

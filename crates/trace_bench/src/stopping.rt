@@ -2,11 +2,11 @@
 ghost use Rattle.std.specs.Prelude.{◌≡◌, ◌↔◌, ◌+◌, ◌<◌, ◌≤◌, ℕ, List, IsTrue, IsOk, IsSome, MatchBool, IfOk, OnOk, Ok, length, true, false};
 ghost use Rattle.bench_base.specs.declared.events.Reply.{Reply};
 ghost use Rattle.bench_base.specs.Ledger.{Ledger};
-ghost use Rattle.bench_base.specs.Ranges.{IsNode, IsWholeEvent};
+ghost use Rattle.bench_base.specs.Ranges.{IsNode};
+ghost use Rattle.bench_base.specs.Events.{IsWholeEvent};
 ghost use Rattle.bench.specs.declared.benches.TheConstants.{MOST_MESSAGES};
 ghost use Rattle.ledger_moves.specs.Tariffs.{Tariff};
-ghost use Rattle.script_text.specs.Texts.{text_of};
-ghost use Rattle.script_text.specs.ReplyRanges.{IsWholeReply};
+ghost use Rattle.script_text.specs.Texts.{text_of, IsWholeReply};
 ghost use Rattle.trace_bench.specs.Prefixes.{number_of, IsFound, BeginsOtherUp, BeginsCutPrint, BeginsRatesFault, BeginsBothUps, BeginsFailure, IsDue, Comes, LosesAt, LosesThere, Loses};
 ghost use Rattle.trace_bench.specs.Judging.{AtEach, IsTold};
 ghost use Rattle.trace_bench.specs.Seeing.{IsReady, Sees, audit_of, keeps};

@@ -14,8 +14,7 @@ use Rattle.node_acts.specs.Acts.{commit_of, outcome_of, MayCome, after_call}
 use Rattle.node_acts.specs.Plans.{IsOfNode, Fails, MayReply, view_after, with_commit}
 use Rattle.node_acts.specs.Said.{IsPlain, seen_plan, said_reply, said_entries}
 use Rattle.node_acts.proofs.Told.{Tells, tells_call}
-use Rattle.script_text.specs.Texts.{reply_words, text_of}
-use Rattle.script_text.specs.ReplyRanges.{IsWholeReply}
+use Rattle.script_text.specs.Texts.{reply_words, text_of, IsWholeReply}
 use Rattle.trace_nodes.specs.Judged.{TellsOf, TellsNone, newest_sent}
 use Rattle.trace_nodes.proofs.Openings.{first, second, power_second, fault_first}
 use Rattle.trace_nodes.proofs.Telling.{IsDue, seen_due, ComesAs, Kind, answered, powered, faulted, kind, same_reply, by_power, by_fault, no_up, may_answer, seen_answer, seen_said}

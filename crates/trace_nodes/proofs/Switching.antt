@@ -11,9 +11,8 @@ use Rattle.bench_base.specs.Ranges.{IsNode}
 use Rattle.bench_base.specs.Replies.{class_of}
 use Rattle.node_acts.specs.Views.{Counting, View, started, up, up_with}
 use Rattle.node_acts.specs.Plans.{MayFail, Fails, MayReply, on_plan, view_after, after}
-use Rattle.script_text.specs.Texts.{text_of}
-use Rattle.script_text.specs.ReplyRanges.{IsWholeReply}
-use Rattle.script_text.specs.ReplyRanges as texts
+use Rattle.script_text.specs.Texts.{text_of, IsWholeReply}
+use Rattle.script_text.specs.Texts as texts
 use Rattle.trace_nodes.specs.Judged.{TellsOf, newest_sent}
 use Rattle.trace_nodes.proofs.Openings.{tells_power, tells_fault}
 

@@ -17,8 +17,7 @@ use Rattle.node_acts.specs.Acts.{commit_of, outcome_in, outcome_of, MayCome, aft
 use Rattle.node_acts.specs.Plans.{IsOfNode, MayFail, Fails, MayReply, done_plan}
 use Rattle.node_acts.specs.Said.{tells, IsPlain, seen_plan, said_reply, said_entries}
 use Rattle.node_acts.proofs.Told.{Tells, tells_call, seen_commit, seen_own}
-use Rattle.script_text.specs.ReplyRanges.{IsWholeReply}
-use Rattle.script_text.specs.Texts.{text_of}
+use Rattle.script_text.specs.Texts.{text_of, IsWholeReply}
 use Rattle.trace_nodes.specs.Judged.{PrintsNone, TellsOf, TellsNone, newest_sent}
 use Rattle.trace_nodes.proofs.Openings.{tells_power, tells_fault}
 

@@ -15,8 +15,7 @@ use Rattle.node_acts.specs.Views.{Counting, View}
 use Rattle.node_acts.specs.Acts.{commit_of}
 use Rattle.node_acts.specs.Plans.{MayReply, view_after, after, on_plan, when_on}
 use Rattle.node_acts.specs.Said.{seen_plan}
-use Rattle.script_text.specs.Texts.{text_of}
-use Rattle.script_text.specs.ReplyRanges.{IsWholeReply}
+use Rattle.script_text.specs.Texts.{text_of, IsWholeReply}
 use Rattle.trace_nodes.specs.declared.printing.PrintOutcome.{PrintOutcome}
 
 -- the message that was sent last, where it is the newest entry

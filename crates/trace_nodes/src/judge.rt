@@ -6,8 +6,7 @@ ghost use Rattle.node_acts.specs.declared.said.Said.{Said};
 ghost use Rattle.node_acts.specs.Acts.{MayCome, commit_of, after_call};
 ghost use Rattle.node_acts.specs.Plans.{IsOfNode};
 ghost use Rattle.node_acts.specs.Said.{IsPlain, said_reply, said_entries, seen_plan};
-ghost use Rattle.script_text.specs.Texts.{text_of};
-ghost use Rattle.script_text.specs.ReplyRanges.{IsWholeReply};
+ghost use Rattle.script_text.specs.Texts.{text_of, IsWholeReply};
 ghost use Rattle.trace_nodes.specs.TracedNodes.{view_of, IsSettled, FitsAct};
 ghost use Rattle.trace_nodes.specs.Judged.{JudgedCall, PrintsNone, newest_sent};
 

@@ -1,11 +1,10 @@
 //! Whether a line of the report can be the reply to a call of a node that prints a mark behind its commit.
-ghost use Rattle.std.specs.Prelude.{◌≡◌, ◌≢◌, ℕ, IfNone, IfSome, MatchBool};
+ghost use Rattle.std.specs.Prelude.{◌≡◌, ◌≢◌, ℕ, MatchBool};
 ghost use Rattle.bench_base.specs.declared.events.Reply.TheVariants as r;
 ghost use Rattle.node_acts.specs.Acts.{commit_of};
 ghost use Rattle.node_acts.specs.Plans.{IsOfNode, view_after};
 ghost use Rattle.node_acts.specs.Said.{IsPlain, seen_plan};
-ghost use Rattle.script_text.specs.Texts.{text_of};
-ghost use Rattle.script_text.specs.ReplyRanges.{IsWholeReply};
+ghost use Rattle.script_text.specs.Texts.{text_of, IsWholeReply};
 ghost use Rattle.trace_nodes.specs.TracedNodes.{view_of, IsSettled, FitsAct};
 ghost use Rattle.trace_nodes.specs.Judged as judged_as;
 ghost use Rattle.trace_nodes.specs.Judged.{JudgedPrinting};
@@ -40,67 +39,13 @@ pub fn unprinted(judged: &Result<Option<Note>, Reply>) -> Result<PrintOutcome, R
     }
 }
 
-// The job whose mark was printed, where this is the answer.
-fn printed_job(answer: &Reply) -> Option<u32>
-    ensures some { IfSome result (λ j. answer.now ≡ r.Printed j) }
-    ensures none { IfNone result ((j : ℕ) → answer.now ≢ r.Printed j) }
-{
-    match answer {
-        Reply::Printed(job) => Some(*job),
-        Reply::Day(_)
-        | Reply::Rates { .. }
-        | Reply::RatesFault
-        | Reply::RatesLength
-        | Reply::RatesToml
-        | Reply::RatesForm
-        | Reply::Made(_)
-        | Reply::Up { .. }
-        | Reply::Down(_)
-        | Reply::CutSet(_)
-        | Reply::Marked { .. }
-        | Reply::SentRequest { .. }
-        | Reply::SentDone { .. }
-        | Reply::Status { .. }
-        | Reply::Registered(_)
-        | Reply::Opened(_)
-        | Reply::Deposited { .. }
-        | Reply::Flagged { .. }
-        | Reply::Balance { .. }
-        | Reply::Ruled { .. }
-        | Reply::Settled { .. }
-        | Reply::Applied { .. }
-        | Reply::Released { .. }
-        | Reply::Held(_)
-        | Reply::Ordered { .. }
-        | Reply::SentDebit { .. }
-        | Reply::PrinterFault(_)
-        | Reply::Closed(_)
-        | Reply::Trusted(_)
-        | Reply::Accepted { .. }
-        | Reply::Reconciled { .. }
-        | Reply::End
-        | Reply::NoDay
-        | Reply::NoMessage(_)
-        | Reply::OffNode(_)
-        | Reply::OnAlready(_)
-        | Reply::Power(_)
-        | Reply::Fault(_)
-        | Reply::Worn(_)
-        | Reply::Damaged(_)
-        | Reply::DevRefused { .. }
-        | Reply::CentreRefused(_)
-        | Reply::HostRefused(_)
-        | Reply::ScanRefused(_) => None,
-    }
-}
-
 // Whether the line is that of a printer fault, where this is the answer.
 fn is_cut_off(answer: &Reply, line: &[u8]) -> bool
     ensures { MatchBool result
         ((j : ℕ) × (answer.now ≡ r.Printed j) × (text_of (r.PrinterFault j) ≡ line.now) × IsWholeReply (r.PrinterFault j))
         ((j : ℕ) → answer.now ≡ r.Printed j → text_of (r.PrinterFault j) ≢ line.now) }
 {
-    match printed_job(answer) {
+    match answer.printed_job() {
         Some(job) => is_told(&Reply::PrinterFault(job), line),
         None => false,
     }

@@ -5,9 +5,8 @@ use Rattle.bench_base.specs.declared.events.Reply.{Reply}
 use Rattle.bench_base.specs.Ledger.{Ledger}
 use Rattle.ledger_moves.specs.Tariffs.{Tariff}
 use Rattle.script_text.specs.Grammar.{Spells, IsSkipped}
-use Rattle.script_text.specs.Texts.{text_of}
-use Rattle.script_text.specs.ReplyRanges.{IsWholeReply, told}
-use Rattle.script_text.proofs.EventsBack.{one_event_of, no_event_skipped}
+use Rattle.script_text.specs.Texts.{text_of, IsWholeReply, told}
+use Rattle.script_text.proofs.EachEvent.{one_event_of, no_event_skipped}
 use Rattle.line_runs.specs.Trace.{Reads, report_of}
 use Rattle.line_runs.specs.Lines.{IsOneLine, ended}
 use Rattle.line_extensions.specs.Trace as traces

@@ -12,9 +12,8 @@ use Rattle.ledger_moves.specs.Tariffs.{Tariff}
 use Rattle.ledger_moves.specs.Moves.{Moves}
 use Rattle.ledger_moves.specs.Histories.{Unforged}
 use Rattle.script_text.specs.Grammar.{Spells, IsSkipped}
-use Rattle.script_text.specs.Texts.{text_of}
-use Rattle.script_text.specs.ReplyRanges.{IsWholeReply, told}
-use Rattle.script_text.proofs.EventsBack.{one_event_of, no_event_skipped}
+use Rattle.script_text.specs.Texts.{text_of, IsWholeReply, told}
+use Rattle.script_text.proofs.EachEvent.{one_event_of, no_event_skipped}
 use Rattle.line_runs.specs.Trace.{Reads, report_of}
 use Rattle.line_runs.specs.Ends.{EndsAt, IsPassed}
 use Rattle.line_runs.specs.Lines.{IsOneLine, ended}

@@ -6,19 +6,19 @@ use Rattle.bench_base.specs.declared.events.Reply.{Reply}
 use Rattle.bench_base.specs.declared.events.Reply.TheVariants as r
 use Rattle.bench_base.specs.Plans.{Plan}
 use Rattle.bench_base.specs.Rules.{todays_rules}
-use Rattle.bench_base.specs.Ranges.{IsWholeEvent}
 use Rattle.bench_base.specs.Ledger.{Ledger}
+use Rattle.bench_base.specs.Events.{IsWholeEvent}
 use Rattle.ledger_moves.specs.Tariffs.{Tariff}
 use Rattle.node_acts.specs.Plans.{Fails}
 use Rattle.ledger_moves.specs.Moves.{Moves, plan}
 use Rattle.node_turns.specs.Printing.{print_of}
-use Rattle.script_text.specs.Texts.{text_of}
-use Rattle.script_text.specs.ReplyRanges.{IsWholeReply, told}
+use Rattle.script_text.specs.Texts.{text_of, IsWholeReply, told}
 use Rattle.trace_bench.specs.Judging.{IsTold, text_with}
 use Rattle.trace_bench.specs.Seeing.{Audit}
 use Rattle.trace_runs.specs.Imprints.{IsGiven, GivesSo, taken_whole, failed_in}
 use Rattle.trace_runs.specs.declared.imprint.Given.{Given}
-use Rattle.trace_bench.proofs.OnlyPrint.{only_print, is_failure}
+use Rattle.scan_laws.proofs.Tells.{is_failure}
+use Rattle.scan_laws.proofs.Plans.{plan_says, only_print}
 
 -- == what of a print is told by its text ==
 
@@ -45,7 +45,7 @@ module _ (τ : Tariff) (H : Ledger) (e : Event) (text : List ℕ) (reply : Reply
 
   pub by_fault : (j : ℕ) → reply ≡ r.PrinterFault j → p.reply ≡ r.Printed j
   by_fault j is = elim moves.1 [
-    | inl same ↦ absurd (true≢false (sym (ap is_failure (sym same ∙ is)) ∙ (only_print τ todays_rules H e text).unfailed))
+    | inl same ↦ absurd (true≢false (sym (ap is_failure (sym same ∙ is)) ∙ (plan_says H τ e text).unfailed))
     | inr (inl up) ↦ let wrong : r.PrinterFault j ≡ r.Up up.node (up.count + 1) = sym is ∙ up.more in cc
     | inr (inr (inl fails)) ↦ subst (λ (x : Reply). Fails p x) is fails
     | inr (inr (inr reads)) ↦ let wrong : r.PrinterFault j ≡ r.RatesFault = sym is ∙ reads.reply_is in cc
@@ -74,19 +74,21 @@ module _ (one : (x y : Reply) → IsWholeReply x → IsWholeReply y → text_of 
 
   whole_given : (j : ℕ) → reply ≡ r.Printed j → (x : List ℕ) × (print_of q.after ≡ Some x) × (given ≡ Some (taken_whole x))
   whole_given j is =
-      let w = (only_print τ todays_rules H e text).answered j (by_printed τ H e text reply t.moves j is) in
-      let due_is : due ≡ Some w.1.0 = sym (marks j w.0) ∙ w.1.1 in
-      (w.1.0, w.1.1, gives.whole j w.0 (sym (ap text_of is) ∙ t.text) ∙ ap (λ (o : Option (List ℕ)). option_map taken_whole o) due_is)
+      let w = only_print H τ e text j (by_printed τ H e text reply t.moves j is) in
+      let mark : print_of q.after ≡ Some w.1.0 = ap print_of w.1.1 in
+      let due_is : due ≡ Some w.1.0 = sym (marks j w.0) ∙ mark in
+      (w.1.0, mark, gives.whole j w.0 (sym (ap text_of is) ∙ t.text) ∙ ap (λ (o : Option (List ℕ)). option_map taken_whole o) due_is)
 
   apart : (j : ℕ) → e ≡ ev.Print j → text_of (r.PrinterFault j) ≡ line → text_of (r.Printed j) ≡ line → ⊥
   apart j is fault print = let w = ranged j is in let wrong : r.Printed j ≡ r.PrinterFault j = one (r.Printed j) (r.PrinterFault j) w.0 w.1 (print ∙ sym fault) in cc
 
   cut_given : (j : ℕ) → reply ≡ r.PrinterFault j → (x : List ℕ) × (print_of q.after ≡ Some x) × (given ≡ Some (failed_in x))
   cut_given j is =
-      let w = (only_print τ todays_rules H e text).answered j (by_fault τ H e text reply t.moves j is) in
-      let due_is : due ≡ Some w.1.0 = sym (marks j w.0) ∙ w.1.1 in
+      let w = only_print H τ e text j (by_fault τ H e text reply t.moves j is) in
+      let mark : print_of q.after ≡ Some w.1.0 = ap print_of w.1.1 in
+      let due_is : due ≡ Some w.1.0 = sym (marks j w.0) ∙ mark in
       let fault : text_of (r.PrinterFault j) ≡ line = sym (ap text_of is) ∙ t.text in
-      (w.1.0, w.1.1, gives.cut j w.0 fault (apart j w.0 fault) ∙ ap (λ (o : Option (List ℕ)). option_map failed_in o) due_is)
+      (w.1.0, mark, gives.cut j w.0 fault (apart j w.0 fault) ∙ ap (λ (o : Option (List ℕ)). option_map failed_in o) due_is)
 
   pub given_by : IsGiven reply (print_of q.after) given
   given_by = record {

@@ -9,8 +9,7 @@ use Rattle.bench_base.specs.Rules.{todays_rules}
 use Rattle.node_acts.specs.Plans.{after_told}
 use Rattle.ledger_moves.specs.Tariffs.{Tariff}
 use Rattle.ledger_moves.specs.Moves.{plan}
-use Rattle.script_text.specs.Texts.{text_of}
-use Rattle.script_text.specs.ReplyRanges.{IsWholeReply, told}
+use Rattle.script_text.specs.Texts.{text_of, IsWholeReply, told}
 use Rattle.line_extensions.specs.Trace.{StepRecord}
 use Rattle.script_replay.specs.Trace.{ledger_by, ledger_after}
 use Rattle.trace_runs.specs.Audits.{MayTell, IsRun, AreAlike}
@@ -18,51 +17,8 @@ use Rattle.trace_bench.specs.Judging.{taken_by}
 
 -- what a reply tells of is told by its text
 telling : (x : Reply) → class_of (told x) ≡ class_of x
-telling (r.ScanRefused r) = refl
-telling (r.Day t) = refl
-telling (r.Rates classes zones) = refl
-telling r.RatesFault = refl
-telling r.RatesLength = refl
-telling r.RatesToml = refl
-telling r.RatesForm = refl
-telling (r.Made d) = refl
-telling (r.Up n k) = refl
-telling (r.Down n) = refl
-telling (r.CutSet n) = refl
-telling (r.Marked d piece again mark) = refl
-telling (r.SentRequest d number message) = refl
-telling (r.SentDone d number message) = refl
-telling (r.Status d shown) = refl
-telling (r.Registered d) = refl
-telling (r.Opened w) = refl
-telling (r.Deposited w receipt again total) = refl
-telling (r.Flagged w suspended) = refl
-telling (r.Balance w left) = refl
-telling (r.Ruled d number verdict again message) = refl
-telling (r.Settled d number again) = refl
-telling (r.Applied d number verdict) = refl
-telling (r.Released d piece again message) = refl
-telling (r.Held job) = refl
-telling (r.Ordered job postage) = refl
-telling (r.SentDebit job message) = refl
-telling (r.Printed job) = refl
-telling (r.PrinterFault job) = refl
-telling (r.Closed job) = refl
-telling (r.Trusted d) = refl
-telling (r.Accepted d piece scan again) = refl
-telling (r.Reconciled d shown booked under_way) = refl
-telling r.End = refl
-telling r.NoDay = refl
-telling (r.NoMessage k) = refl
-telling (r.OffNode n) = refl
-telling (r.OnAlready n) = refl
-telling (r.Power n) = refl
-telling (r.Fault n) = refl
-telling (r.Worn n) = refl
-telling (r.Damaged n) = refl
-telling (r.DevRefused d why) = refl
-telling (r.CentreRefused why) = refl
-telling (r.HostRefused why) = refl
+telling (r.ScanRefused y) = refl
+telling _ = refl
 
 module _ (one : (x y : Reply) → IsWholeReply x → IsWholeReply y → text_of x ≡ text_of y → told x ≡ told y) where
   same_told : (x y : Reply) → IsWholeReply x → IsWholeReply y → text_of x ≡ text_of y → class_of x ≡ class_of y

@@ -3,9 +3,9 @@ use Rattle.std.proofs.Common.{◌≡◌, ◌≢◌, ◌⊎◌, ℕ, ◌<◌, ◌
 use Rattle.bench_base.specs.declared.events.Event.{Event}
 use Rattle.bench_base.specs.declared.events.Event.TheVariants as ev
 use Rattle.bench_base.specs.declared.events.Reply.{Reply}
-use Rattle.bench_base.specs.Events.{Nothing, brought_by}
+use Rattle.bench_base.specs.declared.questions.Brought.TheVariants.{Nothing}
+use Rattle.bench_base.specs.Events.{brought_by, IsWholeEvent}
 use Rattle.bench_base.specs.Ledger.{Ledger}
-use Rattle.bench_base.specs.Ranges.{IsWholeEvent}
 use Rattle.bench_base.specs.Rules.{todays_rules, editions}
 use Rattle.bench_abstraction.specs.Tariff.{IsOfTexts}
 use Rattle.ledger_moves.specs.Tariffs.{Tariff}
@@ -13,8 +13,7 @@ use Rattle.ledger_moves.specs.Moves.{plan}
 use Rattle.node_turns.specs.Printing.{print_of}
 use Rattle.ledger_moves.specs.Histories.{History, Unforged, moves}
 use Rattle.script_text.specs.Grammar.{Spells, IsSkipped}
-use Rattle.script_text.specs.Texts.{text_of}
-use Rattle.script_text.specs.ReplyRanges.{IsWholeReply, told}
+use Rattle.script_text.specs.Texts.{text_of, IsWholeReply, told}
 use Rattle.script_words.specs.declared.word.LineFault.{LineFault}
 use Rattle.line_runs.specs.Ends.{lines_of, EndsAt}
 use Rattle.line_runs.specs.declared.status.Status.TheVariants as status

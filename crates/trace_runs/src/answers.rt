@@ -1,6 +1,6 @@
 //! The answer that a report has for an event.
 ghost use Rattle.std.specs.Prelude.{◌≡◌, ◌+◌, ◌<◌, ◌≤◌, [], length, IfErr};
-ghost use Rattle.bench_base.specs.Ranges.{IsWholeEvent};
+ghost use Rattle.bench_base.specs.Events.{IsWholeEvent};
 ghost use Rattle.bench.specs.declared.benches.TheConstants.{MOST_MESSAGES};
 ghost use Rattle.ledger_moves.specs.Histories.{Unforged};
 ghost use Rattle.line_runs.specs.Lines.{IsOneLine, ended};

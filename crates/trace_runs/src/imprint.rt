@@ -1,6 +1,6 @@
 //! The marks that a run gave to the printer.
 ghost use Rattle.std.specs.Prelude.{◌≡◌, ◌++◌, OnOk, OnErr};
-ghost use Rattle.bench_base.specs.Ranges.{IsWholeEvent};
+ghost use Rattle.bench_base.specs.Events.{IsWholeEvent};
 ghost use Rattle.trace_bench.specs.Seeing.{audit_of};
 ghost use Rattle.trace_runs.specs.Imprints.{GivesSo, IsDueMark, IsTaken, LeavesOpen, imprint_at};
 

@@ -5,9 +5,9 @@ use Rattle.bench_base.specs.declared.ledger.Commit.{Commit}
 use Rattle.bench_base.specs.declared.events.Event.{Event}
 use Rattle.bench_base.specs.declared.events.Reply.{Reply}
 use Rattle.bench_base.specs.Plans.{Plan}
-use Rattle.bench_base.specs.Ranges.{IsWholeEvent}
 use Rattle.bench_base.specs.Rules.{todays_rules, editions}
 use Rattle.bench_base.specs.Ledger.{Ledger, day_in, IsSent, IsReleased}
+use Rattle.bench_base.specs.Events.{IsWholeEvent}
 use Rattle.node_acts.specs.declared.asked.Asked.{Asked}
 use Rattle.node_acts.specs.Views.{Counting, View}
 use Rattle.node_acts.specs.Kinds.{Kind, view_in, node_plan, node_commit}
@@ -21,8 +21,7 @@ use Rattle.bench_abstraction.specs.Kinds.{bench_kinds}
 use Rattle.bench_abstraction.specs.Messages.{sent_in}
 use Rattle.bench_abstraction.specs.Tariff.{quote_in}
 use Rattle.bench_abstraction.specs.Routing.{routed}
-use Rattle.script_text.specs.Texts.{text_of}
-use Rattle.script_text.specs.ReplyRanges.{IsWholeReply}
+use Rattle.script_text.specs.Texts.{text_of, IsWholeReply}
 use Rattle.trace_nodes.specs.Judged.{Judged}
 
 -- the message, if there is one

@@ -2,7 +2,6 @@
 ghost use Rattle.std.specs.Prelude.{◌≡◌};
 ghost use Rattle.std.specs.Option.{ForSome, option_copied};
 ghost use Rattle.bench_base.specs.Ranges.{IsDevice};
-ghost use Rattle.psd_wire.specs.Codes.{has_code};
 ghost use Rattle.verifier.specs.Acts as act_of;
 
 use crate::scans::scan;
@@ -14,7 +13,7 @@ use bench_base::words::Key;
 use hmac_core::ReadyKey;
 use indicium::Mark;
 use node_acts::Act;
-use psd_wire::code_matches_by;
+use psd_wire::is_own_code;
 
 /// What a call of the verifier does.
 pub type ScanAct<A> = Act<Change, ScanRefusal, A>;
@@ -64,12 +63,6 @@ pub fn trust_act(device: DevNo, key: &Key, known: bool) -> ScanAct<()>
             (),
         )
     }
-}
-
-fn is_own_code(bytes: &[u8], key: &ReadyKey) -> bool
-    ensures { result ≡ has_code key.now bytes.now }
-{
-    code_matches_by(bytes, key)
 }
 
 // A mark of a trusted device, with its code.

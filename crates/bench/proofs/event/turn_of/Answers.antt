@@ -7,7 +7,7 @@ use Rattle.bench_base.specs.declared.events.Event.TheVariants as ev
 use Rattle.bench_base.specs.declared.events.Reply.{Reply}
 use Rattle.bench_base.specs.declared.events.Reply.TheVariants as r
 use Rattle.bench_base.specs.Replies.{on_after}
-use Rattle.bench_base.specs.Ranges.{IsWholeEvent}
+use Rattle.bench_base.specs.Events.{IsWholeEvent}
 use Rattle.node_turns.specs.declared.turn.Turn.{Turn}
 use Rattle.node_turns.specs.Printing.{printer_of}
 use Rattle.node_turns.specs.Turns.{turn_of}
@@ -34,7 +34,7 @@ use Rattle.bench.specs.Calls.{device_event, centre_event, host_event, verifier_e
 use Rattle.bench.specs.Comparing.{ShowsAt, running_device, running_centre}
 use Rattle.bench.specs.Outside.{Outside, beside}
 use Rattle.bench.specs.Steps.{Steps, ComparesViews, sending}
-use Rattle.bench_abstraction.proofs.OfNone.{quiet_is}
+use Rattle.bench_abstraction.proofs.Quiet.{quiet_is}
 use Rattle.bench.proofs.Answered.{Answers, steps_day, steps_end, steps_none, steps_missing, steps_compared}
 use Rattle.bench.proofs.AskedNodes.{device_asked, centre_asked, host_asked, verifier_asked}
 use Rattle.bench.proofs.Called.{told_event}

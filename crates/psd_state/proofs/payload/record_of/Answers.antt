@@ -1,5 +1,5 @@
 use Rattle.std.proofs.Common.{arith, rules, ap, sym, subst, refl}
-use borrow.Author.Gap.{read_sfits}
+use Rattle.bench_base.proofs.Facts.{read_sfits}
 use Rattle.std.specs.Int.{w32}
 use Rattle.registers.specs.Sums.{Sums, Sound}
 use Rattle.psd_state.proofs.Read.{ranges_made}

@@ -1,7 +1,7 @@
 use Rattle.std.proofs.Common.{◌≡◌, ℕ, ℤ, List, Some, take, drop, sym, ap, subst, ◌∙◌, refl, FitsSigned}
 use Rattle.std.specs.Int.{w32, cast_signed}
 use Rattle.std.proofs.lemmas.Int.{to_z-of_z}
-use borrow.Author.Gap.{read_sfits}
+use Rattle.bench_base.proofs.Facts.{read_sfits}
 use Rattle.bench_base.proofs.Tables.{first_number}
 use Rattle.bench_base.specs.Table.{number, Four}
 use Rattle.psd_wire.specs.Grammar.{IsDay, day_of}

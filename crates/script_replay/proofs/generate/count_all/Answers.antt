@@ -1,5 +1,5 @@
 use Rattle.std.proofs.Common.{ℕ, List, length, ap, arith}
-use Rattle.bench_base.specs.Ranges.{IsWholeEvent}
+use Rattle.bench_base.specs.Events.{IsWholeEvent}
 use Rattle.script_text.specs.Summaries.{Tally}
 use Rattle.generator.specs.Given.{NeedsNoStream}
 use Rattle.bench.specs.contracts.benches.BenchOverHasNodes.TheImpl.{ghosts}

@@ -1,8 +1,8 @@
 use Rattle.std.proofs.Common.{◌≡◌, ◌≢◌, Some, Result, Ok, Err, sym, ◌∙◌, subst}
 use Rattle.std.specs.Prelude.{IfOk}
+use Rattle.script_text.specs.Texts.{IsWholeReply}
 use Rattle.bench_base.specs.declared.events.Event.TheVariants as ends
 use Rattle.bench_base.specs.declared.events.Reply.{Reply}
-use Rattle.script_text.specs.ReplyRanges.{IsWholeReply}
 use Rattle.line_extensions.specs.Trace.{line_of}
 use Rattle.line_runs.specs.Turns.{Reported}
 use Rattle.line_runs.specs.declared.status.SideStatus.TheVariants.{Run}

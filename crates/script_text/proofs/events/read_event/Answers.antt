@@ -1,16 +1,14 @@
 use Rattle.std.proofs.Common.{◌≡◌, ◌∙◌, ◌∷◌, List, ℕ, Result, Ok, Err, ap, sym, subst}
 use Rattle.std.specs.Prelude.{IfOk, IfErr}
-use Rattle.bench_base.specs.Ranges.{IsWholeEvent}
 use Rattle.bench_base.specs.declared.events.Event.{Event}
+use Rattle.bench_base.specs.Events.{IsWholeEvent}
 use Rattle.script_text.specs.Grammar.{Spells}
 use Rattle.script_text.specs.Keywords.{keyword_word}
 use Rattle.script_text.specs.Reading.{AreNoWords, IsEventOf, IsEventBehind}
 use Rattle.script_words.specs.Words.{words_in}
 use Rattle.script_words.specs.declared.word.LineFault.{LineFault}
 use Rattle.script_text.specs.declared.keyword.Keyword.{Keyword}
-use Rattle.script_text.proofs.ByKeyword.{no_keyword}
-use Rattle.script_text.proofs.EventWords.{spelled, words_spelled}
-use Rattle.script_text.proofs.EventsBack.{one_event_of}
+use Rattle.script_text.proofs.EachEvent.{no_keyword, spelled, words_spelled, one_event_of}
 use Rattle.script_text.proofs.events.read_event.Goals as goal
 
 -- what the words of a line read as, the line does

@@ -1,4 +1,4 @@
-use Rattle.script_text.proofs.EventsBack.{each_event_of}
+use Rattle.script_text.proofs.EachEvent.{each_event_of}
 use Rattle.script_text.proofs.laws.each_event.Goals as goal
 
 pub returns : goal.returns

@@ -1,4 +1,4 @@
-use Rattle.script_text.proofs.EventsBack.{one_event_of}
+use Rattle.script_text.proofs.EachEvent.{one_event_of}
 use Rattle.script_text.proofs.laws.one_event.Goals as goal
 
 pub returns : goal.returns

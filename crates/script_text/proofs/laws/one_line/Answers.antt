@@ -1,4 +1,4 @@
-use Rattle.script_text.proofs.ReplyWords.{one_line_of}
+use Rattle.script_text.proofs.EachReply.{one_line_of}
 use Rattle.script_text.proofs.laws.one_line.Goals as goal
 
 pub returns : goal.returns

@@ -1,4 +1,4 @@
-use Rattle.script_text.proofs.RepliesBack.{one_reply_of}
+use Rattle.script_text.proofs.EachReply.{one_reply_of}
 use Rattle.script_text.proofs.laws.one_reply.Goals as goal
 
 pub returns : goal.returns

@@ -11,7 +11,7 @@ use Rattle.trace_bench.specs.declared.judging.Finding.{Finding}
 use Rattle.trace_bench.specs.Judging.{IsHeard}
 use Rattle.trace_bench.specs.Placed.{ComparesInPlace}
 use Rattle.trace_bench.specs.Seeing.{audit_of}
-use Rattle.bench_abstraction.proofs.OfNone.{quiet_is}
+use Rattle.bench_abstraction.proofs.Quiet.{quiet_is}
 use Rattle.trace_bench.proofs.Days.{hears_day, misses_day, hears_end, hears_no_day, hears_quiet, missing_still, compared_at}
 use Rattle.trace_bench.proofs.Nodes.{hears_device, hears_centre, hears_host, hears_verifier}
 use Rattle.trace_bench.proofs.OfRates.{heard_rates}

@@ -1,7 +1,7 @@
 use Rattle.std.proofs.Common.{◌≡◌, List, ℕ, Some, None, Result, Ok, Err, ap, subst}
 use Rattle.std.specs.Prelude.{IfOk}
-use Rattle.bench_base.specs.Ranges.{IsWholeEvent}
 use Rattle.bench_base.specs.declared.events.Event.{Event}
+use Rattle.bench_base.specs.Events.{IsWholeEvent}
 use Rattle.script_text.specs.Grammar.{Spells}
 use Rattle.script_words.specs.declared.word.LineFault.{LineFault}
 use Rattle.line_runs.specs.declared.status.Status.TheVariants as status

@@ -1,20 +1,119 @@
--- A reply is told by its text, except for the number in a fault of a mark.
-use Rattle.std.proofs.Common.{◌≡◌, ℕ, ℤ, List, length, drop, true, false, Option, Some, None, cond, eqb, refl, sym, ap, ◌∙◌, arith, codes}
+-- Each reply has its text: its bytes are above the space, so that it is one line and is told by its words; and the reply is told by it,
+-- except for the number in a fault of a mark.
+use Rattle.std.proofs.Common.{◌≡◌, ◌≢◌, ℕ, zero, suc, ℤ, ◌<◌, List, [], ◌∷◌, ◌++◌, true, false, Option, Some, None, refl, arith, codes, length, drop, cond, eqb, sym, ap, ◌∙◌}
+use Rattle.std.specs.List.{All, AllByRecursion}
 use Rattle.bench_base.specs.declared.words.Phase.{Phase}
 use Rattle.bench_base.specs.declared.words.Kind.{Kind}
-use Rattle.bench_base.specs.declared.words.Kind.TheVariants.{Enrol, Reset, Audit, Refund, Withdraw}
 use Rattle.bench_base.specs.declared.words.Verdict.{Verdict}
-use Rattle.bench_base.specs.declared.words.Verdict.TheVariants as verdict
 use Rattle.bench_base.specs.declared.events.Reply.{Reply}
-use Rattle.bench_base.specs.declared.events.Reply.TheVariants as reply
+use Rattle.bench_base.specs.declared.words.Kind.TheVariants.{Enrol, Reset, Audit, Refund, Withdraw}
 use Rattle.bench_base.specs.declared.events.DevView.{DevView}
-use Rattle.script_text.specs.Texts.{verdict_word, pending_word, flight_words, reply_words, text_of}
-use Rattle.script_text.specs.ReplyRanges.{IsFlight, IsWholeReply, told}
-use Rattle.script_words.specs.Words.{words_in}
-use Rattle.script_text.proofs.EventsBack.{node_is}
+use Rattle.bench_base.specs.declared.words.Verdict.TheVariants as verdict
+use Rattle.bench_base.specs.declared.events.Reply.TheVariants as reply
+use Rattle.script_words.specs.Words.{words_in, joined, spaced}
+use Rattle.script_text.specs.Texts.{verdict_word, pending_word, flight_words, reply_words, text_of, IsFlight, IsWholeReply, told}
+use Rattle.script_words.proofs.Splits.{Printed, ArePrinted, AreSolid-printed, words_in_joined}
 use Rattle.script_text.proofs.ReadBack.{same, at, first_byte, number_in, device_in, node_in, hex_in, kind_in, again_in, signed_in, number_again, word_again, small_again, device_again, node_again, hex_again, again_again, signed_again}
-use Rattle.script_text.proofs.ReplyWords.{day_small, word_small, words_in_text_of}
 use Rattle.script_text.proofs.RefusalsBack.{phase_in, phase_again, dev_in, dev_again, centre_in, centre_again, host_in, host_again, scan_in, scan_again}
+use Rattle.script_text.proofs.PrintedWords.{literal, number, word, customer, device, node, digits, newness, phase_printed, verdict_printed, day_small, word_small, signed, flagged, pending, flight_printed, dev_printed, centre_printed, host_printed, scan_printed}
+use Rattle.script_text.proofs.EachEvent.{node_is}
+
+-- == its bytes are above the space ==
+
+-- there is a first word, and the bytes of each are above the space
+abbrev AreWords : List (List ℕ) → Type 0
+AreWords [] = ⊥
+AreWords (w ∷ ws) = ArePrinted (w ∷ ws)
+
+reply_printed : (r : Reply) → IsWholeReply r → AreWords (reply_words r)
+unfolding reply_words
+reply_printed (reply.Day t) h = (literal (codes "day") refl, (signed t (day_small t h), tt))
+reply_printed (reply.Rates classes zones) h = (literal (codes "rates") refl, (word classes h.0, (word zones h.1, tt)))
+reply_printed reply.RatesFault h = (literal (codes "rates") refl, (literal (codes "fault") refl, tt))
+reply_printed reply.RatesLength h = (literal (codes "rates") refl, (literal (codes "length") refl, tt))
+reply_printed reply.RatesToml h = (literal (codes "rates") refl, (literal (codes "toml") refl, tt))
+reply_printed reply.RatesForm h = (literal (codes "rates") refl, (literal (codes "form") refl, tt))
+reply_printed (reply.Made d) h = (literal (codes "made") refl, (device d h, tt))
+reply_printed (reply.Up n commits) h = (literal (codes "up") refl, (node n h.0, (literal (codes "commits") refl, (number commits h.1, tt))))
+reply_printed (reply.Down n) h = (literal (codes "down") refl, (node n h, tt))
+reply_printed (reply.CutSet n) h = (literal (codes "cut") refl, (node n h, tt))
+reply_printed (reply.Marked d piece again mark) h = (literal (codes "mark") refl, (device d h.0, (word piece h.1, (newness again, (digits mark h.2.1, tt)))))
+reply_printed (reply.SentRequest d number k) h = (literal (codes "sent") refl, (device d h.0, (literal (codes "request") refl, (word number h.1, (literal (codes "msg") refl, (word k h.2, tt))))))
+reply_printed (reply.SentDone d number k) h = (literal (codes "sent") refl, (device d h.0, (literal (codes "done") refl, (word number h.1, (literal (codes "msg") refl, (word k h.2, tt))))))
+reply_printed (reply.Registered d) h = (literal (codes "registered") refl, (device d h, tt))
+reply_printed (reply.Opened c) h = (literal (codes "opened") refl, (customer c h, tt))
+reply_printed (reply.Deposited c receipt again total) h = (literal (codes "deposited") refl, (customer c h.0, (word receipt h.1, (newness again, (number total h.2, tt)))))
+reply_printed (reply.Balance c total) h = (literal (codes "balance") refl, (customer c h.0, (number total h.1, tt)))
+reply_printed (reply.Ruled d number verdict again k) h = (literal (codes "ruled") refl, (device d h.0, (word number h.1, (literal (codes "verdict") refl, (verdict_printed verdict, (newness again, (literal (codes "msg") refl, (word k h.2, tt))))))))
+reply_printed (reply.Settled d number again) h = (literal (codes "settled") refl, (device d h.0, (word number h.1, (newness again, tt))))
+reply_printed (reply.Applied d number verdict) h = (literal (codes "applied") refl, (device d h.0, (word number h.1, (literal (codes "verdict") refl, (verdict_printed verdict, tt)))))
+reply_printed (reply.Released d piece again k) h = (literal (codes "released") refl, (device d h.0, (word piece h.1, (newness again, (literal (codes "msg") refl, (word k h.2, tt))))))
+reply_printed (reply.Held j) h = (literal (codes "held") refl, (word j h, tt))
+reply_printed (reply.Ordered j postage) h = (literal (codes "ordered") refl, (word j h.0, (literal (codes "postage") refl, (word postage h.1, tt))))
+reply_printed (reply.SentDebit j k) h = (literal (codes "sent") refl, (literal (codes "host") refl, (literal (codes "debit") refl, (word j h.0, (literal (codes "msg") refl, (word k h.1, tt))))))
+reply_printed (reply.Printed j) h = (literal (codes "printed") refl, (word j h, tt))
+reply_printed (reply.PrinterFault j) h = (literal (codes "printer") refl, (literal (codes "fault") refl, (word j h, tt)))
+reply_printed (reply.Closed j) h = (literal (codes "closed") refl, (word j h, tt))
+reply_printed (reply.Trusted d) h = (literal (codes "trusted") refl, (device d h, tt))
+reply_printed (reply.Accepted d piece scan again) h = (literal (codes "accepted") refl, (device d h.0, (word piece h.1, (literal (codes "scan") refl, (word scan h.2, (newness again, tt))))))
+reply_printed reply.End h = (literal (codes "end") refl, tt)
+reply_printed reply.NoDay h = (literal (codes "no") refl, (literal (codes "day") refl, tt))
+reply_printed (reply.NoMessage k) h = (literal (codes "no") refl, (literal (codes "message") refl, (word k h, tt)))
+reply_printed (reply.OffNode n) h = (literal (codes "off") refl, (node n h, tt))
+reply_printed (reply.OnAlready n) h = (literal (codes "on") refl, (literal (codes "already") refl, (node n h, tt)))
+reply_printed (reply.Power n) h = (literal (codes "power") refl, (node n h, tt))
+reply_printed (reply.Fault n) h = (literal (codes "fault") refl, (node n h, tt))
+reply_printed (reply.Worn n) h = (literal (codes "worn") refl, (node n h, tt))
+reply_printed (reply.Damaged n) h = (literal (codes "damaged") refl, (node n h, tt))
+reply_printed (reply.Status d v) h = (literal (codes "status") refl, (device d h.0, (phase_printed v.phase, (literal (codes "ascending") refl, (number v.ascending h.1, (literal (codes "descending") refl, (number v.descending h.2, (literal (codes "refunded") refl, (number v.refunded h.3, (literal (codes "pieces") refl, (word v.pieces h.4, (literal (codes "number") refl, (word v.number h.5, (literal (codes "deadline") refl, (signed v.deadline (word_small v.deadline h.6), (literal (codes "pending") refl, (pending v.pending, tt)))))))))))))))))
+reply_printed (reply.Flagged c suspended) h = (flagged suspended, (customer c h, tt))
+reply_printed (reply.Reconciled d own centre flight) h = (literal (codes "reconcile") refl, (device d h.0, (literal (codes "device") refl, (number own h.1, (literal (codes "centre") refl, (number centre h.2, (literal (codes "in-flight") refl, flight_printed flight h.3)))))))
+reply_printed (reply.DevRefused d r) h = (literal (codes "refused") refl, (device d h.0, dev_printed r h.1))
+reply_printed (reply.CentreRefused r) h = (literal (codes "refused") refl, (literal (codes "centre") refl, centre_printed r h))
+reply_printed (reply.HostRefused r) h = (literal (codes "refused") refl, (literal (codes "host") refl, host_printed r h))
+reply_printed (reply.ScanRefused r) h = (literal (codes "refused") refl, (literal (codes "verifier") refl, scan_printed r h))
+
+some_joined : (ws : List (List ℕ)) → AreWords ws → words_in (joined ws) ≡ ws
+some_joined [] h = absurd h
+some_joined (w ∷ ws) h = words_in_joined w ws (AreSolid-printed (w ∷ ws) h)
+
+-- the words of a reply's text
+pub words_in_text_of : (r : Reply) → IsWholeReply r → words_in (text_of r) ≡ reply_words r
+words_in_text_of r h = some_joined (reply_words r) (reply_printed r h)
+
+-- == a text is one line ==
+
+abbrev HasNoEnd : List ℕ → Type 0
+HasNoEnd bytes = AllByRecursion (λ c. c ≢ 10) bytes
+
+-- so with a word in front of it
+behind_word : (w rest : List ℕ) → Printed w → HasNoEnd rest → HasNoEnd (w ++ rest)
+behind_word [] rest h k = k
+behind_word (c ∷ w) rest h k = (above c h.0, behind_word w rest h.1 k)
+  where
+    above : (c : ℕ) → 32 < c → c ≢ 10
+    above c h e = omega (arith, h, e)
+
+spaced_words : (ws : List (List ℕ)) → ArePrinted ws → HasNoEnd (spaced ws)
+spaced_words [] h = tt
+spaced_words (w ∷ ws) h = (space 32 refl, behind_word w (spaced ws) h.0 (spaced_words ws h.1))
+  where
+    space : (c : ℕ) → c ≡ 32 → c ≢ 10
+    space c is e = omega (arith, is, e)
+
+joined_words : (ws : List (List ℕ)) → AreWords ws → HasNoEnd (joined ws)
+joined_words [] h = tt
+joined_words (w ∷ ws) h = behind_word w (spaced ws) h.0 (spaced_words ws h.1)
+
+by_index : (bytes : List ℕ) → HasNoEnd bytes → All (λ c. c ≢ 10) bytes
+by_index [] h k d lt = absurd (omega (arith, lt))
+by_index (c ∷ bytes) h zero d lt = h.0
+by_index (c ∷ bytes) h (suc k) d lt = by_index bytes h.1 k d (omega (arith, lt))
+
+pub one_line_of : (r : Reply) → IsWholeReply r → All (λ c. c ≢ 10) (text_of r)
+one_line_of r h = by_index (text_of r) (joined_words (reply_words r) (reply_printed r h))
+
+-- == read back ==
 
 abbrev verdict_of : ℕ → Verdict
 verdict_of n = cond (eqb n 0) verdict.Granted (cond (eqb n 1) verdict.NotEnrolled (cond (eqb n 2) verdict.EnrolledAlready (cond (eqb n 3) verdict.NoCustomer (cond (eqb n 4) verdict.Suspended (cond (eqb n 5) verdict.NoFunds verdict.Imbalance)))))
