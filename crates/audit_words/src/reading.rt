@@ -28,6 +28,8 @@ pub struct Words {
     pub rates: Option<String>,
     /// The file of the prints of all runs.
     pub prints: Option<String>,
+    /// The file of the marks that were seen on mail.
+    pub seen: Option<String>,
     pub asked: Asked,
     /// Whether what is undecided at the end counts as decided.
     pub is_lenient: bool,
@@ -61,6 +63,7 @@ enum Operand {
     Folder,
     Rates,
     Prints,
+    Seen,
 }
 
 /// What was read so far.
@@ -91,6 +94,7 @@ fn operand_of(word: &str) -> Option<Operand> {
         "--runs" => Some(Operand::Folder),
         "--rates" => Some(Operand::Rates),
         "--prints" => Some(Operand::Prints),
+        "--seen" => Some(Operand::Seen),
         _ => None,
     }
 }
@@ -131,6 +135,7 @@ impl Reader {
             Operand::Folder => fill(&mut self.words.folder, word),
             Operand::Rates => fill(&mut self.words.rates, word),
             Operand::Prints => fill(&mut self.words.prints, word),
+            Operand::Seen => fill(&mut self.words.seen, word),
         }
     }
 
@@ -195,6 +200,7 @@ fn read_audit(alloc: Global, words: Vec<String>) -> Result<Words, WordsFault> {
             folder: None,
             rates: None,
             prints: None,
+            seen: None,
             asked: Asked::Nothing,
             is_lenient: false,
             names: Vec::new(alloc),

@@ -15,6 +15,7 @@ options, in any order
   --runs DIR       each NAME.script of DIR, by name, before the NAMEs that are given
   --rates FILE     the rates of every run, in place of each NAME.rates
   --prints FILE    whether FILE, such as prints.txt, has the prints of these runs
+  --seen FILE      whether these runs debited each mark of FILE, a line of 128 hexadecimal digits each
   --lenient        status 0 in place of 4
   --help           these lines
   --version        the version

@@ -1,6 +1,6 @@
 //! The auditor's program: whether the reports that some meter wrote for these scripts may be those of a lawful meter. Each NAME is a
 //! run, in order: NAME.script, NAME.report and NAME.rates, which is empty where it is missing. Options ask for runs in a folder, for rates of all runs, for their
-//! prints, and for one of: what the auditor has after the runs, what they came to, the journal of what they committed, and what was due after a stop.
+//! prints, for marks that were seen on mail, and for one of: what the auditor has after the runs, what they came to, the journal of what they committed, and what was due after a stop.
 #![tactic(auto)]
 
 mod checking;
@@ -13,6 +13,7 @@ mod plan;
 mod prints;
 mod runs;
 mod scripts;
+mod seen;
 mod tails;
 mod verdicts;
 
@@ -29,6 +30,7 @@ use faults::{Fault, code_of, or_book, or_memory, or_write};
 use plan::{Plan, plan_of};
 use prints::judge_prints;
 use runs::{Gathered, judge_all, say, say_finding};
+use seen::{SeenFile, read_seen, tell_seen};
 use std::process::ExitCode;
 use std::{env, io};
 use trace_bench::Auditor;
@@ -103,6 +105,36 @@ fn tell_prints(rt: &HostRuntime, plan: &mut Plan, gathered: &mut Gathered) -> Re
     Ok(0)
 }
 
+// Reads the marks that were seen on mail, where a file of them is named.
+fn read_marks(
+    rt: &HostRuntime,
+    plan: &Plan,
+    auditor: &mut Auditor,
+) -> Result<Option<SeenFile>, Fault>
+    requires ready { IsReady (audit_of auditor.old) }
+    ensures ready { IsReady (audit_of auditor.new) }
+{
+    match &plan.seen {
+        Some(file) => Ok(Some(read_seen(rt, auditor, plan.asked, file.as_str())?)),
+        None => Ok(None),
+    }
+}
+
+// Says which of the marks that were seen on mail these runs debited, where there are such: the exit status.
+fn tell_marks(
+    rt: &HostRuntime,
+    plan: &Plan,
+    auditor: &Auditor,
+    seen: Option<SeenFile>,
+) -> Result<u8, Fault>
+    requires ready { IsReady (audit_of auditor.now) }
+{
+    match seen {
+        Some(file) => tell_seen(rt, auditor, plan.asked, file),
+        None => Ok(0),
+    }
+}
+
 // Prints what is asked for below the verdicts, where nothing was found.
 fn tell_below(
     rt: &HostRuntime,
@@ -138,11 +170,14 @@ fn judge_words(
     requires ready_clerk { IsReady (audit_of clerk.old.auditor) }
 {
     let mut plan = planned?;
+    let seen = read_marks(rt, &plan, auditor)?;
     let mut gathered = Gathered::new(rt.alloc());
     if judge_all(rt, &plan, auditor, clerk, &mut gathered)? != 0 {
         return Ok(FINDING);
     }
-    if tell_prints(rt, &mut plan, &mut gathered)? != 0 {
+    let prints_code = tell_prints(rt, &mut plan, &mut gathered)?;
+    let marks_code = tell_marks(rt, &plan, auditor, seen)?;
+    if prints_code != 0 || marks_code != 0 {
         return Ok(FINDING);
     }
     tell_below(rt, &plan, auditor, clerk, &gathered)?;

@@ -16,6 +16,8 @@ pub struct Plan {
     pub rates: Option<Vec<u8>>,
     /// The file of the prints of all runs.
     pub printed: Option<PrintsFile>,
+    /// The file of the marks that were seen on mail.
+    pub seen: Option<String>,
     /// Whether a script may have a `give` or a `scan N hex`: what runs send and release is then kept.
     pub has_bytes: bool,
 }
@@ -82,6 +84,7 @@ pub fn plan_of(rt: &HostRuntime, words: Words) -> Result<Plan, Fault> {
         folder,
         rates,
         prints,
+        seen,
         asked,
         is_lenient,
         names,
@@ -96,6 +99,7 @@ pub fn plan_of(rt: &HostRuntime, words: Words) -> Result<Plan, Fault> {
         is_lenient,
         rates,
         printed,
+        seen,
         has_bytes,
     })
 }

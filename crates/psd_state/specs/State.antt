@@ -1,5 +1,5 @@
 -- A device's record, as its callers see it, and what holds of each. Money is in mills, days are since 1970-01-01.
-use Rattle.std.specs.Prelude.{◌≡◌, ℕ, ℤ, ◌+◌, ◌≤◌, ◌<◌, Bool, true, false, List, replicate, Option, Some, None}
+use Rattle.std.specs.Prelude.{◌≡◌, ℕ, ℤ, ◌+◌, ◌≤◌, ◌<◌, Bool, true, false, List, replicate, Option, Some, None, option_map}
 use Rattle.bench_base.specs.declared.words.Kind.{Kind}
 use Rattle.bench_base.specs.declared.words.Kind.TheVariants.{Enrol, Reset, Audit, Refund, Withdraw}
 use Rattle.bench_base.specs.Kinds.{is_allowed}
@@ -81,6 +81,11 @@ pub record Holds (s : State) : Type 0 where
   pub registers : Sound s.registers
   pub pending : PendingOk s.device s.number s.phase s.registers s.pending
   pub mark : MarkOk s.device s.registers s.mark
+
+-- the mark of the last debit, if there is one
+abbrev pub mark_in : Option State → Option (List ℕ)
+mark_in None = None
+mark_in (Some s) = option_map (λ k. marks.spell k s.key) s.mark
 
 -- the code of the kept mark, and zeros where there is none
 abbrev pub kept_code : List ℕ → Option Mark → List ℕ

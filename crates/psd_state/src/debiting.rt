@@ -1,11 +1,13 @@
 //! Debits: the mark of a piece, once and again.
-ghost use Rattle.std.specs.Prelude.{◌≡◌, Some, IfOk};
+ghost use Rattle.std.specs.Prelude.{◌≡◌, Some, IfOk, option_map};
 ghost use Rattle.bench_base.specs.Rules.{todays_rules};
 ghost use Rattle.indicium.specs.Marks as marks;
 ghost use Rattle.psd_state.specs.Answers as answers;
 ghost use Rattle.psd_state.specs.Answers.{debit_answer, new_answer, HoldsAfter};
+ghost use Rattle.psd_state.specs.State.{mark_in};
 
 use crate::record::DevRec;
+use crate::state_of::DeviceState;
 use crate::words::{VERSION, empties, is_in_service};
 use bench_base::numbers::{DayNo, DevNo};
 use bench_base::refusals::DevRefusal;
@@ -59,6 +61,17 @@ impl DevRec {
         match repeated(&self.mark, command.piece) {
             Some(mark) => self.again(command, &mark),
             None => self.debit_new(command, day, key),
+        }
+    }
+
+    // The mark of the last debit, whose code was kept. None if nothing was debited.
+    #[tactic(auto, unfolding(crate::specs::Payload::mark_part))]
+    fn kept_mark(&self) -> Option<[u8; 64]>
+        ensures { result ≡ option_map (λ k. marks.spell k self.now.key) self.now.mark }
+    {
+        match self.mark {
+            Some(_) => Some(self.mark_bytes()),
+            None => None,
         }
     }
 
@@ -121,6 +134,16 @@ impl DevRec {
             ..*self
         };
         Ok(Debited::New(franked, bytes))
+    }
+}
+
+/// The mark of the device's last debit: its bytes. None if nothing was debited, or the device was not made.
+pub fn last_mark(state: &DeviceState) -> Option<[u8; 64]>
+    ensures { result ≡ mark_in state.now }
+{
+    match state {
+        Some(kept) => kept.record().kept_mark(),
+        None => None,
     }
 }
 

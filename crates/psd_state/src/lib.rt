@@ -16,7 +16,7 @@ mod words;
 
 pub use acts::{DeviceAct, Franked, Taken};
 pub use bench_base::events::DevView as DevStatus;
-pub use debiting::Debited;
+pub use debiting::{Debited, last_mark};
 pub use laws::{one_payload, record_follows_the_commits};
 pub use ready_record::{ReadyRecord, keep, ready};
 pub use record::DevRec;

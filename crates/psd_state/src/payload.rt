@@ -54,7 +54,7 @@ impl DevRec {
     }
 
     // The kept mark, with the code that was kept.
-    fn mark_bytes(&self) -> [u8; 64]
+    pub(crate) fn mark_bytes(&self) -> [u8; 64]
         ensures { result ≡ mark_part self.now.key self.now.mark }
     {
         mark_bytes(&self.mark, &self.code)

@@ -209,7 +209,7 @@ mark_tells bytes known s H same keys (Err fault) = tt
 
 -- == by what the auditor has ==
 
-module _ (a : Audit) (kept : IsTrue (keeps a)) (H : Ledger) (sees : Sees a H) (bytes : List ℕ) (x : Result Message Unread) where
+module _ (a : Audit) (kept : IsTrue (keeps a).all) (H : Ledger) (sees : Sees a H) (bytes : List ℕ) (x : Result Message Unread) where
   told_reply : (d : ℕ) (b : Bool) → OfDevice d a (λ s. b ≡ forged_reply (seen_of s.record).state d bytes a.known.sent x) → TellsNot b (IsKnown bytes x (Device d) H)
   told_reply d b of =
       let shown = device_shown a H sees d (λ (v : View device.Seen). forged_reply v.state.state d bytes a.known.sent x) b (record { place = of.place; is_device = of.is_device; traced = of.traced; at = of.at; holds = of.holds }) in
@@ -223,13 +223,13 @@ module _ (a : Audit) (kept : IsTrue (keeps a)) (H : Ledger) (sees : Sees a H) (b
   told_release : (b : Bool) → b ≡ forged_release a.known.released x → TellsNot b (IsKnown bytes x Host H)
   told_release b is = subst (λ (t : Bool). TellsNot t (IsKnown bytes x Host H)) (sym is) (release_tells bytes a.known.released H (sees.known.released kept) x)
 
-pub told_given : (a : Audit) → IsTrue (keeps a) → (H : Ledger) → Sees a H → All InRange (counted H) → (n : Node) (bytes : List ℕ) (b : Bool) → GivesForged a n bytes b → TellsNot b (IsKnown bytes (read bytes) n H)
+pub told_given : (a : Audit) → IsTrue (keeps a).all → (H : Ledger) → Sees a H → All InRange (counted H) → (n : Node) (bytes : List ℕ) (b : Bool) → GivesForged a n bytes b → TellsNot b (IsKnown bytes (read bytes) n H)
 told_given a kept H sees range (Device d) bytes b is = told_reply a kept H sees bytes (read bytes) d b is
 told_given a kept H sees range Centre bytes b is = told_message a kept H sees bytes (read bytes) range b is
 told_given a kept H sees range Host bytes b is = told_release a kept H sees bytes (read bytes) b is
 told_given a kept H sees range Verifier bytes b is = subst (λ (t : Bool). TellsNot t (IsKnown bytes (read bytes) Verifier H)) (sym is) (verifier_tells bytes H (read bytes))
 
-pub told_mark : (a : Audit) (kept : IsTrue (keeps a)) (H : Ledger) (sees : Sees a H) (bytes : List ℕ) (x : Result (Mark × List ℕ) MarkFault) → All InRange (counted H) → (b : Bool)
+pub told_mark : (a : Audit) (kept : IsTrue (keeps a).all) (H : Ledger) (sees : Sees a H) (bytes : List ℕ) (x : Result (Mark × List ℕ) MarkFault) → All InRange (counted H) → (b : Bool)
     → b ≡ forged_mark (scan_cells.cells_of a.verifier.record) bytes a.known.released x → TellsNot b (IsKnownMark bytes x H)
 told_mark a kept H sees bytes x range b is =
     subst (λ (t : Bool). TellsNot t (IsKnownMark bytes x H)) (sym is)

@@ -1,6 +1,7 @@
 mod Answered
 mod Begun
 mod Days
+mod Debiting
 mod Forged
 mod Keeping
 mod Lifting

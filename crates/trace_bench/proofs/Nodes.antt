@@ -85,9 +85,9 @@ module _ (old : Audit) (e : Event) (prices : KeptPrices) (whole : IsWholeEvent e
   as_it_was a = subst (λ (b : Audit). SeesRun b H) (sends_nothing a)
 
   pub hears_device : (d : ℕ) (asked : Asked DeviceCall) → routed old.messages (quote old.rates) e ≡ Some (route.OfDay (of_day.Device d asked)) → (devices : List (Traced DeviceRecord State)) (result : Result GaveOut Reply)
-      → DeviceJudged d today asked line old.devices devices result → IsHeard τ H e left line (record old { devices = devices }) (heard_of_device result)
+      → DeviceJudged d today asked line old.devices devices result → IsHeard τ H e left line (record old { devices = devices }) (heard_of_device d result)
   hears_device d asked is devices result judged =
-      subst (λ (l : List (Traced DeviceRecord State)). IsHeard τ H e left line (record old { devices = l }) (heard_of_device result)) (sym judged.set)
+      subst (λ (l : List (Traced DeviceRecord State)). IsHeard τ H e left line (record old { devices = l }) (heard_of_device d result)) (sym judged.set)
       (by result (judged.by_ledger τ H e history unforged day_is whole (taken_there τ prices texts H old e (route.OfDay (of_day.Device d asked)) sees is) tt seen))
     where
       none : TakesNone e (day_in H) left
@@ -99,7 +99,7 @@ module _ (old : Audit) (e : Event) (prices : KeptPrices) (whole : IsWholeEvent e
       now : Audit
       now = record old { devices = slice_set old.devices judged.place judged.now }
 
-      by : (r : Result GaveOut Reply) → device_verdicts.MovesBy τ H e d line (device.view_of judged.now) r → IsHeard τ H e left line now (heard_of_device r)
+      by : (r : Result GaveOut Reply) → device_verdicts.MovesBy τ H e d line (device.view_of judged.now) r → IsHeard τ H e left line now (heard_of_device d r)
       by (Ok gave) so = (
         so.0,
         lift_told τ H e left line none (sending gave.sent now) so.0 so.1.text so.1.whole so.1.moves

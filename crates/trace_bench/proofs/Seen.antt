@@ -27,7 +27,7 @@ use Rattle.trace_bench.specs.Seeing.{Audit, AreSettled, SeesRun, sending}
 set_same : {X : Type 0} (xs : List X) (i : ℕ) (x y : X) → i < length xs → slice_get (slice_set xs i x) i ≡ Some y → y ≡ x
 set_same xs i x y lt is = same_Some _ _ (sym is ∙ slice_get-get_or (slice_set xs i x) i x (omega (arith, length-set xs i x)) ∙ ap (λ z. Some z) (get_or-set_same xs i x x lt))
 
-set_other : {X : Type 0} (xs : List X) (i : ℕ) (x : X) (j : ℕ) → j ≢ i → slice_get (slice_set xs i x) j ≡ slice_get xs j
+pub set_other : {X : Type 0} (xs : List X) (i : ℕ) (x : X) (j : ℕ) → j ≢ i → slice_get (slice_set xs i x) j ≡ slice_get xs j
 set_other [] i x j differs = refl
 set_other (y ∷ ys) zero x zero differs = absurd (differs refl)
 set_other (y ∷ ys) zero x (suc j) differs = refl

@@ -1,7 +1,9 @@
--- What was sent and released in all runs, as the auditor keeps it.
-use Rattle.std.specs.Prelude.{◌≡◌, ◌⊎◌, ◌↔◌, ◌||◌, ℕ, List, [], Bool, IsTrue, Option, Some, bytes_eq}
+-- What was sent and released in all runs, and which of the marks that were seen were debited, as the auditor keeps it.
+use Rattle.std.specs.Prelude.{◌≡◌, ◌⊎◌, ◌↔◌, ◌||◌, ℕ, List, [], Bool, IsTrue, Option, Some, None, bytes_eq}
 use Rattle.std.specs.List.{list_any}
 use Rattle.bench_base.specs.Ledger.{Ledger, IsSent, IsReleased}
+use Rattle.trace_seen.specs.Marks.{asked, seen_as}
+use Rattle.trace_bench.specs.Debits.{TellsDebits}
 use Rattle.trace_bench.specs.declared.known.ByteSet.{ByteSet}
 use Rattle.trace_bench.specs.declared.known.Known.{Known}
 
@@ -43,10 +45,19 @@ has = has_by (λ v. v)
 abbrev pub Has : List ℕ → ByteSet (List ℕ) → Type 0
 Has bytes s = IsTrue (has bytes s)
 
--- nothing was sent or released
+-- what is kept of all runs: whether all that was sent and released, and which marks were seen, each with the line that has it first
+pub record Kept : Type 0 where
+  pub all : Bool
+  pub seen : List (List ℕ × ℕ)
+
+abbrev pub kept_of : Known → Kept
+kept_of k = record { all = k.is_kept; seen = asked k.seen }
+
+-- nothing was sent, released or seen
 pub record IsBlank (k : Known) : Type 0 where
   pub sent : (bytes : List ℕ) → Has bytes k.sent → ⊥
   pub released : (mark : List ℕ) → Has mark k.released → ⊥
+  pub unseen : (mark : List ℕ) → seen_as k.seen mark ≡ None
 
 -- if it is kept, this message and this mark are kept too, if there are any
 pub record Learns (sent released : Option (List ℕ)) (old new : Known) : Type 0 where
@@ -54,13 +65,16 @@ pub record Learns (sent released : Option (List ℕ)) (old new : Known) : Type 0
   pub sends : IsTrue old.is_kept → (bytes : List ℕ) → Has bytes new.sent ↔ ((sent ≡ Some bytes) ⊎ Has bytes old.sent)
   pub releases : IsTrue old.is_kept → (mark : List ℕ) → Has mark new.released ↔ ((released ≡ Some mark) ⊎ Has mark old.released)
 
--- the same messages and marks are kept
+-- the same messages and marks are kept, and the same is told of the marks that were seen
 pub record KeepsSame (old new : Known) : Type 0 where
   pub kept : new.is_kept ≡ old.is_kept
+  pub seen : new.seen ≡ old.seen
   pub sent : (bytes : List ℕ) → Has bytes new.sent ↔ Has bytes old.sent
   pub released : (mark : List ℕ) → Has mark new.released ↔ Has mark old.released
 
--- WHAT IS KEPT is what was sent and released at the ledger, in any run, if it is kept at all
+-- WHAT IS KEPT is what was sent and released at the ledger, in any run, if it is kept at all; and of the marks that were seen those are told as debited whose debits
+-- count there, and no others
 pub record Knows (k : Known) (H : Ledger) : Type 0 where
   pub sent : IsTrue k.is_kept → (bytes : List ℕ) → Has bytes k.sent ↔ IsSent bytes H
   pub released : IsTrue k.is_kept → (mark : List ℕ) → Has mark k.released ↔ IsReleased mark H
+  pub debited : TellsDebits k.seen H

@@ -1,5 +1,6 @@
 -- Promised: public contracts name these.
 pub mod Beginning
+pub mod Debits
 pub mod Forging
 pub mod Judging
 pub mod Known

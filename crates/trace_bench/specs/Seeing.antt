@@ -22,7 +22,7 @@ use Rattle.trace_verifier.specs.Cells as verifier
 use Rattle.trace_views.specs.Verdicts.{listed}
 use Rattle.trace_bench.specs.declared.auditor.Auditor.{Auditor}
 use Rattle.trace_bench.specs.declared.known.Known.{Known}
-use Rattle.trace_bench.specs.Known.{Knows}
+use Rattle.trace_bench.specs.Known.{Kept, Knows, kept_of}
 
 -- the day, the messages of the run, of which the first was sent first, the rates that were read last, the nodes by what was told of
 -- them, of the devices number i is device i + 1, and what was sent and released in all runs
@@ -48,9 +48,9 @@ audit_of a = record {
   known = a.known;
 }
 
--- whether it keeps what was sent and released
-abbrev pub keeps : Audit → Bool
-keeps a = a.known.is_kept
+-- what it keeps of all runs
+abbrev pub keeps : Audit → Kept
+keeps a = kept_of a.known
 
 abbrev pub AreSettled : List (Traced DeviceRecord State) → Type 0
 AreSettled devices = (i : ℕ) (s : Traced DeviceRecord State) → slice_get devices i ≡ Some s → device.IsSettled s
@@ -71,7 +71,7 @@ pub record SeesRun (a : Audit) (H : Ledger) : Type 0 where
   pub host : host.view_of a.host ≡ view_in Host (bench_kinds.host.seen tt) H
   pub verifier : verifier.view_of a.verifier ≡ view_in Verifier (bench_kinds.verifier.seen tt) H
 
--- WHAT THE AUDITOR HAS is what the ledger shows: of the run, of each node, and of what was sent and released in all runs, if it keeps that
+-- WHAT THE AUDITOR HAS is what the ledger shows: of the run, of each node, of what was sent and released in all runs, if it keeps that, and of the marks that were seen
 pub record Sees (a : Audit) (H : Ledger) : Type 0 where
   pub run : SeesRun a H
   pub known : Knows a.known H

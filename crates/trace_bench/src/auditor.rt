@@ -121,7 +121,7 @@ impl Auditor {
     /// AllocError is lack of memory.
     pub fn new(alloc: Global, is_kept: bool) -> Result<Auditor, AllocError>
         ensures ready { IfOk result (λ a. IsReady (audit_of a)) }
-        ensures kept { IfOk result (λ a. keeps (audit_of a) ≡ is_kept) }
+        ensures kept { IfOk result (λ a. keeps (audit_of a) ≡ record { all = is_kept; seen = [] }) }
         ensures blank { IfOk result (λ a. Sees (audit_of a) []) }
     {
         let devices = blank_devices(alloc)?;

@@ -153,7 +153,7 @@ pub fn index(alloc: Global, auditor: &mut Auditor, event: &Event) -> Result<(), 
 // Whether the event brings something forged, by an auditor that keeps what was sent and released.
 fn brings_forged(auditor: &Auditor, event: &Event) -> bool
     requires ready { IsReady (audit_of auditor.now) }
-    requires kept { IsTrue (keeps (audit_of auditor.now)) }
+    requires kept { IsTrue (keeps (audit_of auditor.now)).all }
     ensures by_record { BringsForged (audit_of auditor.now) event.now result }
     ensures by_ledger { TellsForged (audit_of auditor.now) event.now result }
 {
@@ -187,7 +187,7 @@ fn brings_nothing(event: &Event) -> bool
 /// not keep what was sent and released.
 pub fn is_forged(auditor: &Auditor, event: &Event) -> Option<bool>
     requires ready { IsReady (audit_of auditor.now) }
-    ensures unkept { IfNone result (IsFalse (keeps (audit_of auditor.now))) }
+    ensures unkept { IfNone result (IsFalse (keeps (audit_of auditor.now)).all) }
     ensures brings { IfNone result (brought_by event.now ≢ Nothing) }
     ensures by_record { IfSome result (λ b. BringsForged (audit_of auditor.now) event.now b) }
     ensures by_ledger { IfSome result (λ b. TellsForged (audit_of auditor.now) event.now b) }

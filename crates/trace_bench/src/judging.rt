@@ -5,6 +5,7 @@ ghost use Rattle.bench_base.specs.Events.{IsWholeEvent};
 ghost use Rattle.bench_abstraction.specs.Centre as centres;
 ghost use Rattle.bench_abstraction.specs.Verifier as verifiers;
 ghost use Rattle.bench.specs.declared.benches.TheConstants.{MOST_MESSAGES};
+ghost use Rattle.trace_bench.specs.Debits.{OthersRest};
 ghost use Rattle.trace_bench.specs.Placed.{DeviceJudged, ComparesInPlace};
 ghost use Rattle.trace_bench.specs.Plainly.{IsPlainly, SendsHeard, heard_of, heard_of_device, heard_of_host, heard_of_rates};
 ghost use Rattle.trace_bench.specs.Seeing.{AreSettled, IsReady, audit_of, keeps};
@@ -13,6 +14,7 @@ ghost use Rattle.trace_bench.specs.Judging.{AtEach, AtEachRun, IsHeard, IsJudged
 use crate::auditor::Auditor;
 use crate::comparing::compare;
 use crate::rates::judge_rates;
+use crate::ticking::tick_last;
 use bench_abstraction::laws::nodes_follow;
 use bench_abstraction::{CentreCall, DeviceCall, OfDay, Routed, VerifierCall, route};
 use bench_base::bytes::Note;
@@ -20,6 +22,7 @@ use bench_base::events::{Event, Reply};
 use bench_base::numbers::{DayNo, DevNo};
 use call_handlers::{hands_bytes, scans_bytes};
 use centre_ledger::Row;
+use debit_laws::laws::debits;
 use host_rates::laws::prices_by_text;
 use node_acts::Asked;
 use psd_state::DevRec;
@@ -39,12 +42,13 @@ pub enum Finding {
     Memory,
 }
 
-/// What is heard of an event by its line: the message that it sent, the mark that it released, and how much of the rates it took, in bytes.
+/// What is heard of an event by its line: the message that it sent, the mark that it released, how much of the rates it took, in bytes, and the device that it was for.
 #[derive(Clone, Copy)]
 pub struct Heard {
     pub sent: Option<Note>,
     pub released: Option<[u8; 64]>,
     pub taken: usize,
+    pub device: Option<DevNo>,
 }
 
 // The line beside the one answer to an event.
@@ -56,6 +60,7 @@ fn plain(due: Reply, line: &[u8]) -> Result<Heard, Finding>
             sent: None,
             released: None,
             taken: 0,
+            device: None,
         })
     } else {
         Err(Finding::Wrong(due))
@@ -71,20 +76,22 @@ fn of_node(judged: Result<Option<Note>, Reply>) -> Result<Heard, Finding>
             sent,
             released: None,
             taken: 0,
+            device: None,
         }),
         Err(due) => Err(Finding::Wrong(due)),
     }
 }
 
-// What is heard of a device.
-fn of_device(judged: Result<GaveOut, Reply>) -> Result<Heard, Finding>
-    ensures { result ≡ heard_of_device judged }
+// What is heard of this device.
+fn of_device(device: DevNo, judged: Result<GaveOut, Reply>) -> Result<Heard, Finding>
+    ensures { result ≡ heard_of_device device judged }
 {
     match judged {
         Ok(gave) => Ok(Heard {
             sent: gave.sent,
             released: gave.released,
             taken: 0,
+            device: Some(device),
         }),
         Err(due) => Err(Finding::Wrong(due)),
     }
@@ -99,6 +106,7 @@ fn of_host(judged: Result<PrintOutcome, Reply>) -> Result<Heard, Finding>
             sent: told.sent,
             released: None,
             taken: 0,
+            device: None,
         }),
         Err(due) => Err(Finding::Wrong(due)),
     }
@@ -113,6 +121,7 @@ fn of_rates(judged: Result<usize, Finding>) -> Result<Heard, Finding>
             sent: None,
             released: None,
             taken,
+            device: None,
         }),
         Err(finding) => Err(finding),
     }
@@ -182,6 +191,7 @@ pub(crate) fn hear(
     ensures ready { IsReady (audit_of auditor.new) }
     ensures unsent { (audit_of auditor.new).messages ≡ (audit_of auditor.old).messages }
     ensures unlearnt { (audit_of auditor.new).known ≡ (audit_of auditor.old).known }
+    ensures others { OthersRest result (audit_of auditor.old).devices (audit_of auditor.new).devices }
     ensures judged { AtEachRun (audit_of auditor.old) event.now (λ τ H. IsHeard τ H event.now left.now line.now (audit_of auditor.new) result) }
 {
     // What is seen of the nodes follows from the ledger.
@@ -211,9 +221,10 @@ pub(crate) fn hear(
                     let due = compare_in_place(*device, &auditor.devices, &auditor.centre);
                     plain(due, line)
                 }
-                OfDay::Device(device, asked) => {
-                    of_device(device_in_place(&mut auditor.devices, *device, day, asked, line))
-                }
+                OfDay::Device(device, asked) => of_device(
+                    *device,
+                    device_in_place(&mut auditor.devices, *device, day, asked, line),
+                ),
                 OfDay::Centre(asked) => {
                     hands_centre(asked);
                     of_node(judge_centre(&mut auditor.centre, day, asked, line))
@@ -228,7 +239,7 @@ pub(crate) fn hear(
     }
 }
 
-// Sends the message that was heard of, if there is one, and keeps it and the mark, if that is kept.
+// Sends the message that was heard of, if there is one, and keeps it and the mark, if that is kept. The mark of the device's last debit is told as debited, if it was seen.
 pub(crate) fn send(auditor: &mut Auditor, heard: Heard) -> Result<usize, Finding>
     requires ready { IsReady (audit_of auditor.old) }
     ensures ready { IsReady (audit_of auditor.new) }
@@ -236,6 +247,7 @@ pub(crate) fn send(auditor: &mut Auditor, heard: Heard) -> Result<usize, Finding
     ensures kept { keeps (audit_of auditor.new) ≡ keeps (audit_of auditor.old) }
     ensures sent { SendsHeard heard (audit_of auditor.old) (audit_of auditor.new) result }
 {
+    tick_last(&mut auditor.known.seen, &auditor.devices, heard.device);
     if auditor.known.learn(&heard.sent, &heard.released).is_err() {
         return Err(Finding::Memory);
     }
@@ -266,6 +278,8 @@ pub fn judge(
     ensures kept { keeps (audit_of auditor.new) ≡ keeps (audit_of auditor.old) }
     ensures judged { AtEach (audit_of auditor.old) event.now (λ τ H. IsJudged τ H event.now left.now line.now (audit_of auditor.new) result) }
 {
+    // What is debited follows from the ledger.
+    debits();
     match hear(alloc, auditor, event, left, line) {
         Ok(heard) => send(auditor, heard),
         Err(finding) => Err(finding),

@@ -1,11 +1,12 @@
-//! What was sent and released in all runs: kept as it comes, and found by its bytes once it is asked for.
-ghost use Rattle.std.specs.Prelude.{◌≡◌, ◌↔◌, ◌||◌, ℕ, List, IsTrue, OnOk};
+//! What was sent and released in all runs: kept as it comes, and found by its bytes once it is asked for. And which of the marks that were seen on mail were debited.
+ghost use Rattle.std.specs.Prelude.{◌≡◌, ◌↔◌, ◌||◌, ℕ, List, [], IsTrue, OnOk};
 ghost use Rattle.trace_bench.specs.Known as known;
-ghost use Rattle.trace_bench.specs.Known.{Learns, Puts, HasSame, IsAllFound, IsBlank, has_by, is_among};
+ghost use Rattle.trace_bench.specs.Known.{Learns, Puts, HasSame, IsAllFound, IsBlank, has_by, is_among, kept_of};
 
 use bench_base::bytes::Note;
 use std::alloc::{AllocError, Global};
 use std::collections::HashSet;
+use trace_seen::SeenMarks;
 
 /// Bytes that are kept by value.
 pub trait AsBytes: Copy + Drop {
@@ -98,23 +99,25 @@ impl<K: AsBytes> ByteSet<K> {
     }
 }
 
-/// The messages that were sent and the marks that were released, over all runs, if they are kept.
+/// The messages that were sent and the marks that were released, over all runs, if they are kept; and marks that were seen, each with whether it was debited.
 #[derive(Drop)]
 pub struct Known {
     pub(crate) is_kept: bool,
     pub(crate) sent: ByteSet<Note>,
     pub(crate) released: ByteSet<[u8; 64]>,
+    pub(crate) seen: SeenMarks,
 }
 
 impl Known {
     pub(crate) fn new(alloc: Global, is_kept: bool) -> Known
         ensures blank { IsBlank result }
-        ensures kept { result.is_kept ≡ is_kept }
+        ensures kept { kept_of result ≡ record { all = is_kept; seen = [] } }
     {
         Known {
             is_kept,
             sent: ByteSet::new(alloc),
             released: ByteSet::new(alloc),
+            seen: SeenMarks::new(alloc),
         }
     }
 
@@ -124,7 +127,8 @@ impl Known {
         sent: &Option<Note>,
         released: &Option<[u8; 64]>,
     ) -> Result<(), AllocError>
-        ensures kept { self.new.is_kept ≡ self.old.is_kept }
+        ensures kept { kept_of self.new ≡ kept_of self.old }
+        ensures seen { self.new.seen ≡ self.old.seen }
         ensures learns { OnOk result (Learns sent.now released.now self.old self.new) }
     {
         if !self.is_kept {

@@ -10,6 +10,7 @@ pub mod printed;
 pub mod rates;
 pub mod stopping;
 mod telling;
+mod ticking;
 
 pub use auditor::Auditor;
 pub use forging::{index, is_forged};

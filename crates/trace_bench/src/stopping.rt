@@ -17,6 +17,7 @@ use crate::judging::{Finding, hear, judge, send};
 use bench_base::events::{Event, Reply};
 use bench_base::numbers::{DayNo, DevNo};
 use bench_base::words::Node;
+use debit_laws::laws::debits;
 use script_text::laws::{one_line, one_reply};
 use script_text::{Line, put_reply};
 use std::alloc::{AllocError, Global};
@@ -152,6 +153,8 @@ fn lose_power_at(
     ensures lost { AtEach (audit_of auditor.old) event.now (λ τ H. IfOk result (λ b. LosesAt τ H event.now left.now node.now (audit_of auditor.new) b)) }
 {
     one_reply();
+    // What is debited follows from the ledger.
+    debits();
     let mut line = Line::new();
     put_reply(&mut line, &Reply::Power(*node));
     match hear(alloc, auditor, event, left, line.as_slice()) {

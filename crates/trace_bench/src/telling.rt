@@ -2,7 +2,8 @@
 ghost use Rattle.std.specs.Prelude.{◌≡◌, ◌-◌, ◌+◌, length, is_some, slice_get, option_map, Some};
 ghost use Rattle.std.specs.Option.{option_copied};
 ghost use Rattle.bench_base.specs.Ranges.{IsDevice};
-ghost use Rattle.bench_base.specs.Ledger.{Ledger, torn_of};
+ghost use Rattle.bench_base.specs.Ledger.{Ledger, counted, torn_of};
+ghost use Rattle.ledger_terms.specs.Devices.{key_of};
 ghost use Rattle.host_jobs.specs.Seen.{rows_in};
 ghost use Rattle.host_jobs.specs.Rows.{last_in};
 ghost use Rattle.psd_state.specs.Answers.{status_of as status_in};
@@ -160,6 +161,15 @@ impl Auditor {
         ensures { result ≡ length (audit_of self.now).messages }
     {
         self.messages.len()
+    }
+
+    /// Whether the device was made, by the commits that count.
+    pub fn is_made(&self, device: DevNo) -> bool
+        requires ready { IsReady (audit_of self.now) }
+        ensures by_record { OfDevice device (audit_of self.now) (λ s. result ≡ is_some s.record.state) }
+        ensures by_ledger { (H : Ledger) → Sees (audit_of self.now) H → result ≡ is_some (key_of device (counted H)) }
+    {
+        traced_of(&self.devices, device).record.state.is_some()
     }
 
     /// How many commits of the node count.

@@ -70,7 +70,7 @@ module _ (number : ℕ) (inside : number ≤ 1000000) (script line lines : List 
   forged before brings = (record { falls = (refl, e, is_event); so = λ τ H texts history seen. (brings τ H history seen, seen) }, sym (append-nil before))
 
   -- or bytes, and the auditor does not keep what was sent and released
-  pub unkept : (before : List Imprint) → brought_by e ≢ Nothing → keeps old ≡ false → FellPut number script report rates old old before before (Unkept number)
+  pub unkept : (before : List Imprint) → brought_by e ≢ Nothing → (keeps old).all ≡ false → FellPut number script report rates old old before before (Unkept number)
   unkept before brings none = (record { falls = (refl, e, is_event, brings); so = λ τ H texts history seen. (none, seen) }, sym (append-nil before))
 
   -- the report ends before the line end of its answer

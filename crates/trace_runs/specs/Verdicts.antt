@@ -172,7 +172,7 @@ module _ (τ : Tariff) (H : Ledger) (left : List ℕ) (now : Audit) where
   IsSo number rest told (Stopped n) at = Unforged at.1 H × IsBegun τ H at.1 left told now × IsLeftOpen τ H at.1 told at.2
   IsSo number rest told (Wrong n due) at = Unforged at.1 H × IsWrong at.1 due told at.3
   IsSo number rest told (Forged n) at = (Unforged at.1 H → ⊥) × Sees now H
-  IsSo number rest told (Unkept n) at = (keeps now ≡ false) × Sees now H
+  IsSo number rest told (Unkept n) at = ((keeps now).all ≡ false) × Sees now H
   IsSo number rest told Memory at = Unit {0}
   IsSo number rest told (Unread input n) at = Unit {0}
 

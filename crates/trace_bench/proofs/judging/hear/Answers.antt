@@ -8,11 +8,13 @@ use Rattle.bench_abstraction.specs.Tariff.{quote}
 use Rattle.bench.proofs.Events.{taken_as, work_as, needs_taken}
 use Rattle.trace_bench.specs.declared.judging.Heard.{Heard}
 use Rattle.trace_bench.specs.declared.judging.Finding.{Finding}
+use Rattle.trace_bench.specs.Debits.{OthersRest}
 use Rattle.trace_bench.specs.Judging.{IsHeard}
 use Rattle.trace_bench.specs.Placed.{ComparesInPlace}
 use Rattle.trace_bench.specs.Seeing.{audit_of}
 use Rattle.bench_abstraction.proofs.Quiet.{quiet_is}
 use Rattle.trace_bench.proofs.Days.{hears_day, misses_day, hears_end, hears_no_day, hears_quiet, missing_still, compared_at}
+use Rattle.trace_bench.proofs.Debiting.{none_changed, other_places}
 use Rattle.trace_bench.proofs.Nodes.{hears_device, hears_centre, hears_host, hears_verifier}
 use Rattle.trace_bench.proofs.OfRates.{heard_rates}
 use Rattle.trace_bench.proofs.judging.hear.Goals as goal
@@ -102,3 +104,37 @@ returns-in-Verifier-clause-judged c τ H texts history unforged sees =
     let is = work_as old.messages c.deref.result.now (quote old.rates) c.args.event.now c.route-found.result c.in-Some.taken c.in-OfDay.work (of_day.Verifier b.asked) c.deref.ensures.value c.route-found.ensures.exact c.in-Some.is c.in-OfDay.is b.is in
     let heard = hears_verifier old c.args.event.now c.prices_by_text.ensures.kept c.requires.whole c.in-Some-today.day c.in-Some-today.is c.args.left.now c.args.line.now τ H texts history unforged sees b.asked is c.hands_verifier.ensures c.judge_scans.new.traced c.judge_scans.result c.judge_scans.ensures.by_ledger in
     subst (λ (x : Result Heard Finding). IsHeard τ H c.args.event.now c.args.left.now c.args.line.now (record old { verifier = c.judge_scans.new.traced }) x) (sym c.of_node-in-Verifier.ensures) heard
+
+-- == the other devices ==
+
+pub returns-in-Ok-clause-others : goal.returns-in-Ok-clause-others
+returns-in-Ok-clause-others c i s at other = at
+
+pub returns-in-End-clause-others : goal.returns-in-End-clause-others
+returns-in-End-clause-others c = none_changed _ _
+
+pub returns-in-NoMessage-clause-others : goal.returns-in-NoMessage-clause-others
+returns-in-NoMessage-clause-others c = none_changed _ _
+
+pub returns-in-Reconcile-clause-others : goal.returns-in-Reconcile-clause-others
+returns-in-Reconcile-clause-others c = none_changed _ _
+
+pub returns-in-None-clause-others : goal.returns-in-None-clause-others
+returns-in-None-clause-others c = none_changed _ _
+
+pub returns-in-Rates-clause-others : goal.returns-in-Rates-clause-others
+returns-in-Rates-clause-others c = none_changed _ _
+
+pub returns-in-Device-clause-others : goal.returns-in-Device-clause-others
+returns-in-Device-clause-others c =
+    let b = c.in-Device in
+    subst (λ (x : Result Heard Finding). OthersRest x (audit_of c.args.auditor.now).devices c.device_in_place.new.devices.items) (sym c.of_device.ensures) (other_places b.device c.device_in_place.ensures.judged)
+
+pub returns-in-Centre-clause-others : goal.returns-in-Centre-clause-others
+returns-in-Centre-clause-others c = none_changed _ _
+
+pub returns-in-Host-clause-others : goal.returns-in-Host-clause-others
+returns-in-Host-clause-others c = none_changed _ _
+
+pub returns-in-Verifier-clause-others : goal.returns-in-Verifier-clause-others
+returns-in-Verifier-clause-others c = none_changed _ _
