@@ -124,7 +124,8 @@ pub record Nodes : Type 1 where
   pub fuse : fuse.Ghosts Storage
   pub inner : nv.Ghosts Inner
 
-abbrev pub bench_nodes : {D C H V XD XC XH XV RD RC RH RV S N : Type 0} (d : Ghosts D S ℕ XD RD) (c : Ghosts C S (Unit {0}) XC RC) (h : Ghosts H S (Unit {0}) XH RH) (v : Ghosts V S (Unit {0}) XV RV)
+abbrev pub bench_nodes : {D C H V XD XC XH XV RD RC RH RV S N : Type 0} (d : Ghosts D S ℕ XD RD) (c : Ghosts C S (Unit {0}) XC RC)
+    (h : Ghosts H S (Unit {0}) XH RH) (v : Ghosts V S (Unit {0}) XV RV)
     → Kinds d.Seen c.Seen h.Seen v.Seen → nv.Ghosts S → fuse.Ghosts S → nv.Ghosts N → Nodes
 bench_nodes {D} {C} {H} {V} {XD} {XC} {XH} {XV} {RD} {RC} {RH} {RV} {S} {N} d c h v kinds storage armed inner = record {
   Devices = D;
@@ -183,13 +184,15 @@ module _ (n : Nodes) where
   devices = record { Own = n.Devices; Name = ℕ; Change = n.DeviceChange; Spare = n.DeviceSpare; Call = DeviceCall; ghosts = n.devices; kind = n.kinds.devices }
 
   abbrev pub centre : OneKind n.Storage
-  centre = record { Own = n.Centres; Name = Unit {0}; Change = n.CentreChange; Spare = n.CentreSpare; Call = CentreCall; ghosts = n.centre; kind = n.kinds.centre }
+  centre = record { Own = n.Centres; Name = Unit {0}; Change = n.CentreChange; Spare = n.CentreSpare; Call = CentreCall; ghosts = n.centre;
+      kind = n.kinds.centre }
 
   abbrev pub host : OneKind n.Storage
   host = record { Own = n.Hosts; Name = Unit {0}; Change = n.HostChange; Spare = n.HostSpare; Call = HostCall; ghosts = n.host; kind = n.kinds.host }
 
   abbrev pub verifier : OneKind n.Storage
-  verifier = record { Own = n.Verifiers; Name = Unit {0}; Change = n.VerifierChange; Spare = n.VerifierSpare; Call = VerifierCall; ghosts = n.verifier; kind = n.kinds.verifier }
+  verifier = record { Own = n.Verifiers; Name = Unit {0}; Change = n.VerifierChange; Spare = n.VerifierSpare; Call = VerifierCall;
+      ghosts = n.verifier; kind = n.kinds.verifier }
 
   -- P holds of this node
   abbrev pub By : OfName n.Storage → Node → Type 0

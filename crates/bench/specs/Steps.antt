@@ -50,10 +50,12 @@ use Rattle.bench.specs.Outside.{Outside, ReadsRates}
 
 -- an image of node m that shows its counted commits and the commit of the event
 abbrev pub ShowsCommit : {K S N C R : Type 0} (n : Ghosts K S N C R) → (List Commit → n.Seen) → Node → Tariff → Ledger → Event → List ℕ → List ℕ → Type 0
-ShowsCommit n seen m τ H e text image = (c : Commit) × ((plan τ todays_rules H e text).commit ≡ Some c) × (node_of c ≡ m) × n.IsShown (seen (c ∷ counted H)) image
+ShowsCommit n seen m τ H e text image = (c : Commit) × ((plan τ todays_rules H e text).commit ≡ Some c) × (node_of c ≡ m)
+    × n.IsShown (seen (c ∷ counted H)) image
 
 -- each image that the node had since the event began shows the ledger, or the ledger and the one commit of the event
-abbrev pub ShowsLedger : {K S N C R : Type 0} (n : Ghosts K S N C R) → nv.Ghosts S → (List Commit → n.Seen) → Node → Tariff → Ledger → Event → List ℕ → K → K → Type 0
+abbrev pub ShowsLedger : {K S N C R : Type 0} (n : Ghosts K S N C R) → nv.Ghosts S → (List Commit → n.Seen) → Node → Tariff → Ledger → Event → List ℕ
+    → K → K → Type 0
 ShowsLedger n g seen m τ H e text s t = (image : List ℕ) → (times_of n g t).since (times_of n g s).moment image
     → Allowed n (view_in m seen H) image ⊎ ShowsCommit n seen m τ H e text image
 
@@ -66,13 +68,15 @@ abbrev pub MovesViews : {K S N C R X : Type 0} (n : Ghosts K S N C R) → nv.Gho
 MovesViews n g kind m d today asked turn s t = (v : View n.Seen) → node.Stands n g d v s → MovesView n kind g m d today asked turn v s t
 
 -- and the printer takes what the plan of any such view prints
-abbrev pub PrintsViews : {K S N C R X : Type 0} (n : Ghosts K S N C R) → nv.Ghosts S → Kind N n.Seen X → Node → N → ℤ → Asked X → Turn → K → Outside → Outside → Type 0
+abbrev pub PrintsViews : {K S N C R X : Type 0} (n : Ghosts K S N C R) → nv.Ghosts S → Kind N n.Seen X → Node → N → ℤ → Asked X → Turn → K → Outside
+    → Outside → Type 0
 PrintsViews n g kind m d today asked turn s before now =
     (v : View n.Seen) → node.Stands n g d v s → PrinterDid turn.reply (print_of (plan_by n kind m d today v asked).after) before.printer now.printer
 
 -- What an event on this day with this reply leaves of node m, whatever its storage tells: whether it is on, where the event brings no
 -- message that nobody sent; its counts and its fuse. Where the event is for another node, it is as it was.
-pub record Leaves {K S N C R : Type 0} (n : Ghosts K S N C R) (g : nv.Ghosts S) (f : fuse.Ghosts S) (m : Node) (e : Event) (today : Option ℤ) (reply : Reply) (s t : K) : Type 0 where
+pub record Leaves {K S N C R : Type 0} (n : Ghosts K S N C R) (g : nv.Ghosts S) (f : fuse.Ghosts S) (m : Node) (e : Event) (today : Option ℤ)
+    (reply : Reply) (s t : K) : Type 0 where
   pub switches : IsSome today → node_for e ≡ Some m → ((k : ℕ) → reply ≢ r.NoMessage k) → Switches m e reply (n.is_on s) (n.is_on t)
   pub charged : Charged m e reply (meters_of n g s) (meters_of n g t)
   pub armed : IsSome today → (calls keep byte : ℕ) → e ≡ ev.Cut m calls keep byte → IsArmed n f t calls keep byte
@@ -114,7 +118,8 @@ module _ (n : Nodes) where
   -- before and after the event.
   pub record AreLeft (old new : BenchOf n) (stores : Places n.Inner) : Type 0 where
     pub eight : length stores.devices ≡ 8
-    pub each : (m : Node) (store : n.Inner) → store_of stores m ≡ Some store → At n (λ k i d s t. (n.inner.size store ≡ k.ghosts.bytes) × HoldsImage k.ghosts n.storage n.inner s t store) old new m
+    pub each : (m : Node) (store : n.Inner) → store_of stores m ≡ Some store
+        → At n (λ k i d s t. (n.inner.size store ≡ k.ghosts.bytes) × HoldsImage k.ghosts n.storage n.inner s t store) old new m
 
   -- whatever a stop between these benches leaves represents this ledger, which is a history
   abbrev pub LeftFor : Tariff → BenchOf n → BenchOf n → Ledger → Type 0
@@ -122,7 +127,8 @@ module _ (n : Nodes) where
 
   -- the reply is what any two views show for which the device and the centre stood
   abbrev pub ComparesViews : ℕ → Reply → n.Centres → n.Devices → Type 0
-  ComparesViews d reply centre device = (v : View n.devices.Seen) (w : View n.centre.Seen) → node.Stands n.devices n.storage d v device → node.Stands n.centre n.storage tt w centre → n.storage.tells
+  ComparesViews d reply centre device = (v : View n.devices.Seen) (w : View n.centre.Seen) → node.Stands n.devices n.storage d v device
+      → node.Stands n.centre n.storage tt w centre → n.storage.tells
       → reply ≡ n.kinds.compare d v w
 
   -- By a history for which the bench stood, where the event took this text of the rates: the reply is one that the event may get
@@ -145,20 +151,25 @@ module _ (n : Nodes) where
 
   -- what this asks on that day was done: of a node as any view allows for which it stood; and two nodes are compared as any two views show
   abbrev pub DoesAsked : ℤ → Turn → BenchOf n → BenchOf n → Outside → Outside → OfDay → Type 0
-  DoesAsked today turn old new before now (of_day.Reconcile d) = (i : ℕ) (s : n.Devices) → d ≡ i + 1 → slice_get old.devices i ≡ Some s → ComparesViews d turn.reply old.centre s
-  DoesAsked today turn old new before now (of_day.Device d asked) = (i : ℕ) (s t : n.Devices) → d ≡ i + 1 → slice_get old.devices i ≡ Some s → slice_get new.devices i ≡ Some t
+  DoesAsked today turn old new before now (of_day.Reconcile d) = (i : ℕ) (s : n.Devices) → d ≡ i + 1 → slice_get old.devices i ≡ Some s
+      → ComparesViews d turn.reply old.centre s
+  DoesAsked today turn old new before now (of_day.Device d asked) = (i : ℕ) (s t : n.Devices) → d ≡ i + 1 → slice_get old.devices i ≡ Some s
+      → slice_get new.devices i ≡ Some t
       → MovesViews n.devices n.storage n.kinds.devices (Device d) d today asked turn s t
   DoesAsked today turn old new before now (of_day.Centre asked) = MovesViews n.centre n.storage n.kinds.centre Centre tt today asked turn old.centre new.centre
   DoesAsked today turn old new before now (of_day.Host asked) =
-      MovesViews n.host n.storage n.kinds.host Host tt today asked turn old.host new.host × PrintsViews n.host n.storage n.kinds.host Host tt today asked turn old.host before now
-  DoesAsked today turn old new before now (of_day.Verifier asked) = MovesViews n.verifier n.storage n.kinds.verifier Verifier tt today asked turn old.verifier new.verifier
+      MovesViews n.host n.storage n.kinds.host Host tt today asked turn old.host new.host
+          × PrintsViews n.host n.storage n.kinds.host Host tt today asked turn old.host before now
+  DoesAsked today turn old new before now (of_day.Verifier asked) =
+      MovesViews n.verifier n.storage n.kinds.verifier Verifier tt today asked turn old.verifier new.verifier
   DoesAsked today turn old new before now _ = Unit {0}
 
   -- By what the storages show, whether or not a history leads to it: the event does what any view allows for which its node stood,
   -- and compares what any two views show; one that commits nothing writes nothing; and damage is told if and only if the storage
   -- that an `on` read is none of the node.
   pub record StepsByViews (e : Event) (turn : Turn) (old new : BenchOf n) (before now : Outside) : Type 0 where
-    pub does : (today : ℤ) (x : OfDay) → old.day ≡ Some today → routed old.messages (quote old.rates) e ≡ Some (route.OfDay x) → DoesAsked today turn old new before now x
+    pub does : (today : ℤ) (x : OfDay) → old.day ≡ Some today → routed old.messages (quote old.rates) e ≡ Some (route.OfDay x)
+        → DoesAsked today turn old new before now x
     pub unwritten : may_commit e ≡ false → (m : Node) → At n (λ k i d s t. Mounts (times_of k.ghosts n.storage s) (times_of k.ghosts n.storage t)) old new m
     pub damaged : (m : Node) → e ≡ ev.On m → has_read turn.reply ≡ true → At n (λ k i d s t. (turn.reply ≡ r.Damaged i) ↔ HasDamage k.ghosts d t) old new m
 

@@ -103,7 +103,8 @@ routed pool quote (ev.Flag w suspended) = Some (of_centre (centre.Flag (record {
 routed pool quote (ev.Balance w) = Some (of_centre (centre.Balance (record { customer = w })))
 routed pool quote (ev.Deliver k) = message_taken k (length pool) (slice_get pool k)
 routed pool quote (ev.Give n bytes) = given_to n bytes (length pool)
-routed pool quote (ev.Order d piece class grams zone) = Some (of_host (host.Order (record { device = d; piece = piece; class = class; grams = grams; zone = zone; price = quote class grams zone })))
+routed pool quote (ev.Order d piece class grams zone) = Some
+    (of_host (host.Order (record { device = d; piece = piece; class = class; grams = grams; zone = zone; price = quote class grams zone })))
 routed pool quote (ev.Send j) = Some (of_host (host.Send (record { job = j; message = length pool })))
 routed pool quote (ev.Print j) = Some (of_host (host.Print (record { job = j })))
 routed pool quote (ev.Close j) = Some (of_host (host.Close (record { job = j })))

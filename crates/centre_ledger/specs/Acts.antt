@@ -51,7 +51,8 @@ pub record LookUps : Type 0 where
   pub standing : ℕ → Option Standing
 
 abbrev pub in_books : Books → LookUps
-in_books b = record { device = λ d. device_at b d; customer = λ w. customer_at b w; left = λ w. left_in b w; standing = λ d. option_map standing_of (device_at b d) }
+in_books b = record { device = λ d. device_at b d; customer = λ w. customer_at b w; left = λ w. left_in b w;
+    standing = λ d. option_map standing_of (device_at b d) }
 
 -- == customers ==
 
@@ -88,7 +89,8 @@ taken_act w receipt amount r (Ok (Some next)) = Commits (c.Deposited w receipt a
 -- a deposit is taken, by the row of the customer
 abbrev pub deposited_act : ℕ → ℕ → ℕ → Option CustomerRow → CentreAct Deposit
 deposited_act w receipt amount None = Refuse (no.UnknownCustomer w)
-deposited_act w receipt amount (Some r) = taken_act w receipt amount r (deposited_row r receipt amount (deposit_answer (r.receipt, r.amount) r.deposits receipt amount))
+deposited_act w receipt amount (Some r) = taken_act w receipt amount r
+    (deposited_row r receipt amount (deposit_answer (r.receipt, r.amount) r.deposits receipt amount))
 
 -- the same, by what is looked up
 abbrev pub deposit_by : ℕ → ℕ → ℕ → LookUps → CentreAct Deposit
@@ -184,7 +186,8 @@ settled_act r n (Ok (Some next)) = Commits (c.Settled r.device n) (row.Device ne
 -- the act of a Done, by the row of its device and its code
 abbrev pub done_act : List ℕ → DoneMsg → Option DeviceRow → CentreAct CentreAnswer
 done_act bytes q None = Refuse (no.UnknownDevice q.device)
-done_act bytes q (Some r) = if has_code r.key bytes then settled_act r q.number (settled_row r (settle_answer r.settled r.ruled q.number)) else Refuse no.BadCode
+done_act bytes q (Some r) = if has_code r.key bytes then settled_act r q.number (settled_row r (settle_answer r.settled r.ruled q.number))
+    else Refuse no.BadCode
 
 -- == what is taken ==
 

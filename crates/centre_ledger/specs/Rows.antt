@@ -91,7 +91,8 @@ withdrawn_of (Withdrawn w) = Withdrawn w
 
 -- a granted enrolment enrols under the customer that it names, a granted withdrawal withdraws
 abbrev pub enrolment_after : Enrolment → Verdict → Request → Enrolment
-enrolment_after e v q = if is_granted v && same_kind q.kind Enrol then Enrolled q.customer else if is_granted v && same_kind q.kind Withdraw then withdrawn_of e else e
+enrolment_after e v q = if is_granted v && same_kind q.kind Enrol then Enrolled q.customer
+    else if is_granted v && same_kind q.kind Withdraw then withdrawn_of e else e
 
 -- an enrolment that is granted names a customer
 abbrev pub NamesCustomer : Verdict → Request → Type 0

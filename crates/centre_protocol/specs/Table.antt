@@ -97,7 +97,8 @@ stays_sound s x sound has fits fresh = record {
   };
   placed = λ k. elim (cases_eq k (cell_of x)) [
     | inl is ↦
-        subst (λ (o : Option (ℕ × Row)). IfSome (row_of o) (IsIn k)) (sym (ap (row_at (put s (cell_of x) x)) is ∙ here)) (subst (λ (j : ℕ). IsIn j x) (sym is) (is_in x has))
+        subst (λ (o : Option (ℕ × Row)). IfSome (row_of o) (IsIn k)) (sym (ap (row_at (put s (cell_of x) x)) is ∙ here))
+            (subst (λ (j : ℕ). IsIn j x) (sym is) (is_in x has))
     | inr differs ↦ subst (λ (o : Option (ℕ × Row)). IfSome (row_of o) (IsIn k)) (sym (put_other s (cell_of x) x k differs)) (sound.placed k)
   ];
 }

@@ -15,7 +15,8 @@ first_alone rest line words =
     let is : line ≡ joined (codes "statement" ∷ rest) = sym (joined_words_in line) ∙ ap (λ (ws : List (List ℕ)). joined ws) words in
     record {
       not_skipped = λ skipped. let at : 115 ≡ 35 = subst (λ (l : List ℕ). IsSkipped l) is skipped in omega (arith, at);
-      not_end = λ end. let two : joined (codes "statement" ∷ rest) ≡ codes "end" = sym is ∙ end.2 ∙ ap (λ (ws : List (List ℕ)). joined ws) end.1 in let first : 115 ≡ 101 = ap (λ (l : List ℕ). get_or l 0 0) two in omega (arith, first);
+      not_end = λ end. let two : joined (codes "statement" ∷ rest) ≡ codes "end" = sym is ∙ end.2
+          ∙ ap (λ (ws : List (List ℕ)). joined ws) end.1 in let first : 115 ≡ 101 = ap (λ (l : List ℕ). get_or l 0 0) two in omega (arith, first);
     }
 
 pub own_alone : (own : OwnLine) (line : List ℕ) → IsOwnLine own line → IsAlone line

@@ -24,7 +24,8 @@ event_alone e line is other = record {
 first_alone : (tail line : List ℕ) → line ≡ 100 ∷ tail → IsAlone line
 first_alone tail line is = record {
   not_skipped = λ skipped. let at : 100 ≡ 35 = subst (λ (l : List ℕ). IsSkipped l) is skipped in omega (arith, at);
-  not_end = λ end. let two : 100 ∷ tail ≡ codes "end" = sym is ∙ end.2 ∙ ap (λ (ws : List (List ℕ)). joined ws) end.1 in let first : 100 ≡ 101 = ap (λ (l : List ℕ). get_or l 0 0) two in omega (arith, first);
+  not_end = λ end. let two : 100 ∷ tail ≡ codes "end" = sym is ∙ end.2
+      ∙ ap (λ (ws : List (List ℕ)). joined ws) end.1 in let first : 100 ≡ 101 = ap (λ (l : List ℕ). get_or l 0 0) two in omega (arith, first);
 }
 
 -- one whose first word is `dept`

@@ -53,14 +53,16 @@ AllAssigned rows (d ∷ steps) = PrintsAssigned rows d × AllAssigned rows steps
 -- that with the one commit in hand. By a history for which the bench stood, and where the jobs of earlier runs are backed by it, what is kept at each
 -- line holds by the ledger so far, and `dept spent` is answered by it, up to the first forged event. Where nothing was forged, either holds by the ledger that
 -- the steps leave.
-pub record DidDepartments (n : Nodes) {N : Type 0} (own : nv.Ghosts N) (old new : World (SceneOf n) (Departments N own)) (outcome : SideStatus) (trace : List (SideStep DepartmentLine)) : Type 0 where
+pub record DidDepartments (n : Nodes) {N : Type 0} (own : nv.Ghosts N) (old new : World (SceneOf n) (Departments N own)) (outcome : SideStatus)
+    (trace : List (SideStep DepartmentLine)) : Type 0 where
   pub side : DidSide n (departments_desk own) old new outcome trace
   pub failed : Option CellCommit
   pub answers : AreAnswered (StepsBy n) (scene side.begun old.scene.outside) (rows_of old.desk) trace side.behind.scene (rows_of new.desk) failed
   pub follows : (τ : Tariff) (L : Ledger) → IsOfTexts τ → StandsFor n τ old.scene.bench L → n.storage.tells → AreBacked (rows_of old.desk) L
       → FollowLedger (StepsBy n) τ (Begin ∷ L) (scene side.begun old.scene.outside) (rows_of old.desk) trace side.behind.scene (rows_of new.desk) failed answers
   pub storage : LeavesStorage own decoded 12 CELLS (view_of old.desk) (view_of new.desk) outcome trace failed
-  pub throughout : EachMove (departments_desk own) (StepsBy n) (λ s t. ShownMeanwhile own decoded 12 CELLS (view_of s) (view_of t)) (world (scene side.begun old.scene.outside) old.desk)
+  pub throughout : EachMove (departments_desk own) (StepsBy n) (λ s t. ShownMeanwhile own decoded 12 CELLS (view_of s) (view_of t))
+      (world (scene side.begun old.scene.outside) old.desk)
       side.behind trace side.did
   pub within : IsWithinQuotas (rows_of new.desk)
   pub one : IsOfOne (rows_of new.desk)

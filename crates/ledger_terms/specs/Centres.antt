@@ -31,7 +31,8 @@ key_in (Some x) = x.1
 -- the customer of the first granted ruling on an enrolment
 abbrev pub enrolled : ℕ → List Commit → Option ℕ
 enrolled d [] = None
-enrolled d (Ruled e n v note ∷ C) = if (e == d) && (is_granted v && same_kind (request_in note).kind Enrol) then first_of (enrolled d C) (Some (request_in note).customer) else enrolled d C
+enrolled d (Ruled e n v note ∷ C) = if (e == d) && (is_granted v && same_kind (request_in note).kind Enrol)
+    then first_of (enrolled d C) (Some (request_in note).customer) else enrolled d C
 enrolled d (_ ∷ C) = enrolled d C
 
 -- a withdrawal of the device was granted

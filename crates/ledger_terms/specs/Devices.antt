@@ -85,7 +85,8 @@ phase d C = phase_of (applied_kind Withdraw d C) (applied_kind Audit d C) (appli
 -- before the first; small postage is franked for the days of grace behind it
 abbrev pub deadline : ℕ → List Commit → ℤ
 deadline d [] = pos 0
-deadline d (Applied e n v ∷ C) = if e == d then (if is_dated v (request_of d n C).kind then (request_of d n C).day +ℤ pos 92 else deadline d C) else deadline d C
+deadline d (Applied e n v ∷ C) = if e == d then (if is_dated v (request_of d n C).kind then (request_of d n C).day +ℤ pos 92 else deadline d C)
+    else deadline d C
 deadline d (_ ∷ C) = deadline d C
 
 -- the day of the last Debited or Asked, and 0 before the first
@@ -98,7 +99,8 @@ last_day d (_ ∷ C) = last_day d C
 -- the customer in the Request of the granted applied enrolment, and 0 before it
 abbrev pub customer : ℕ → List Commit → ℕ
 customer d [] = 0
-customer d (Applied e n v ∷ C) = if e == d then (if is_granted v && same_kind (request_of d n C).kind Enrol then (request_of d n C).customer else customer d C) else customer d C
+customer d (Applied e n v ∷ C) = if e == d then (if is_granted v && same_kind (request_of d n C).kind Enrol then (request_of d n C).customer
+    else customer d C) else customer d C
 customer d (_ ∷ C) = customer d C
 
 -- the registered origin after a granted applied enrolment, and 0 before it

@@ -96,7 +96,8 @@ debited_since d n (_ ∷ C) = debited_since d n C
 -- no Debited stands between its Asked and its Applied, and just after the Applied descending is 0
 abbrev pub Refunds : List Commit → Type 0
 Refunds (Ruled d n v note ∷ C) = is_granted v ≡ true → empties (request_in note).kind ≡ true → (request_in note).amount ≡ descending d C
-Refunds (Applied d n v ∷ C) = is_granted v ≡ true → empties (request_of d n C).kind ≡ true → (debited_since d n C ≡ false) × (descending d (Applied d n v ∷ C) ≡ 0)
+Refunds (Applied d n v ∷ C) = is_granted v ≡ true → empties (request_of d n C).kind ≡ true → (debited_since d n C ≡ false)
+    × (descending d (Applied d n v ∷ C) ≡ 0)
 Refunds C = Unit {0}
 
 -- == registers ==
@@ -114,7 +115,8 @@ pub record IsBalanced (settled ruled ascending descending resets refunds adds ta
 
 -- the registers of the device are its acknowledged resets less its refunds, with the one ruling that is in flight
 abbrev pub Accounts : List Commit → ℕ → Type 0
-Accounts C d = IsBalanced (settled d C) (ruled d C) (ascending d C) (descending d C) (acknowledged_resets d C) (acknowledged_refunds d C) (flight adds d C) (flight takes d C)
+Accounts C d = IsBalanced (settled d C) (ruled d C) (ascending d C) (descending d C) (acknowledged_resets d C) (acknowledged_refunds d C)
+    (flight adds d C) (flight takes d C)
 
 -- so it is of every device, and after an application
 abbrev pub Registers : List Commit → Type 0

@@ -79,13 +79,16 @@ module _ {K T : Type 0} (k : Ghosts K T) {B : Type 0} (Steps : B → B → StepR
 
   -- `DidEvents` says that the bench did events by steps, one after the other
   module _ (DidEvents : B → B → List StepRecord → Type 0) (chain : IsChain Steps DidEvents) where
-    asked_steps : (old new : World B K) (next : Next) (steps : List StepRecord) (last : Next) → Asks k Steps old new next steps last → DidEvents old.scene new.scene steps
+    asked_steps : (old new : World B K) (next : Next) (steps : List StepRecord) (last : Next) → Asks k Steps old new next steps last
+        → DidEvents old.scene new.scene steps
     asked_steps old new next [] last asks = subst (λ (b : B). DidEvents old.scene b []) (ap (λ (w : World B K). w.scene) (sym asks.1)) (chain.nothing old.scene)
     asked_steps old new next (d ∷ rest) last asks =
-        chain.both old.scene asks.0.scene new.scene (d ∷ []) rest (chain.one old.scene asks.0.scene d asks.2.turn asks.2.did) (asked_steps asks.0 new asks.1 rest last asks.3)
+        chain.both old.scene asks.0.scene new.scene (d ∷ []) rest (chain.one old.scene asks.0.scene d asks.2.turn asks.2.did)
+            (asked_steps asks.0 new asks.1 rest last asks.3)
 
     one_step : (old new : World B K) (d : SideStep k.Own) → DoesOne k Steps old new d → DidEvents old.scene new.scene (steps_in d)
-    one_step old new (Plain (Skipped line)) did = subst (λ (b : B). DidEvents old.scene b []) (ap (λ (w : World B K). w.scene) (sym did)) (chain.nothing old.scene)
+    one_step old new (Plain (Skipped line)) did = subst (λ (b : B). DidEvents old.scene b []) (ap (λ (w : World B K). w.scene) (sym did))
+        (chain.nothing old.scene)
     one_step old new (Plain (Did line d)) did = chain.one old.scene new.scene d did.turn did.did
     one_step old new (Own line own steps texts) did = asked_steps (world old.scene did.did.desk) new did.did.first steps _ did.did.asks
     one_step old new (Broken line own steps) did = asked_steps (world old.scene did.desk) new did.first steps _ did.asks
@@ -93,4 +96,5 @@ module _ {K T : Type 0} (k : Ghosts K T) {B : Type 0} (Steps : B → B → StepR
     -- the bench did the events of the steps
     pub bench_part : (old new : World B K) (trace : List (SideStep k.Own)) → Does k Steps old new trace → DidEvents old.scene new.scene (steps_of trace)
     bench_part old new [] did = subst (λ (b : B). DidEvents old.scene b []) (ap (λ (w : World B K). w.scene) (sym did)) (chain.nothing old.scene)
-    bench_part old new (d ∷ rest) did = chain.both old.scene did.0.scene new.scene (steps_in d) (steps_of rest) (one_step old did.0 d did.1) (bench_part did.0 new rest did.2)
+    bench_part old new (d ∷ rest) did = chain.both old.scene did.0.scene new.scene (steps_in d) (steps_of rest) (one_step old did.0 d did.1)
+        (bench_part did.0 new rest did.2)

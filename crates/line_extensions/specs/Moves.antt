@@ -18,7 +18,8 @@ module _ {K T : Type 0} (k : Ghosts K T) {B : Type 0} (Steps : B → B → StepR
   abbrev pub EachIn : (old new : World B K) (x : SideStep k.Own) → DoesOne k Steps old new x → Type 0
   EachIn old new (Plain (Skipped line)) did = Unit {0}
   EachIn old new (Plain (Did line d)) did = Moves old.desk new.desk
-  EachIn old new (Own line own steps texts) did = Moves old.desk did.did.desk × EachAsked (world old.scene did.did.desk) new did.did.first steps Say did.did.asks
+  EachIn old new (Own line own steps texts) did = Moves old.desk did.did.desk
+      × EachAsked (world old.scene did.did.desk) new did.did.first steps Say did.did.asks
   EachIn old new (Broken line own steps) did = Moves old.desk did.desk × EachAsked (world old.scene did.desk) new did.first steps Stop did.asks
 
   -- of all lines

@@ -60,7 +60,8 @@ module _ {N R : Type 0} (g : Ghosts N) (decoded : ℕ → List ℕ → Option R)
         × ShowsRows size cells (ReadsAs decoded) (with_commit (Some c) (rows_seen old)) i)
 
   -- Whether a commit failed, and which; why; and what each image of the storage shows, which has cells of this size.
-  pub record LeavesStorage {L : Type 0} (size cells : ℕ) (old new : DeskView N) (outcome : SideStatus) (trace : List (SideStep L)) (commit : Option (RowCommit R)) : Type 0 where
+  pub record LeavesStorage {L : Type 0} (size cells : ℕ) (old new : DeskView N) (outcome : SideStatus) (trace : List (SideStep L))
+      (commit : Option (RowCommit R)) : Type 0 where
     -- the run was stopped if and only if one failed
     pub stops : (outcome ≡ Stopped) ↔ HasBroken trace
     pub which : (outcome ≡ Stopped) ↔ IsSome commit

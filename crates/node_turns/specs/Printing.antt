@@ -62,8 +62,10 @@ unprinted_turn commit job = turn_of (r.PrinterFault job) (with_commit commit [])
 -- part of that, where the printer fails
 pub data PrintsCall {X : Type 0} (m : Node) (act : Act X Reply Said) (x : Outcome Reply Said) (before now : Printer) : Turn → Type 0 where
   prints_nothing : to_print x ≡ None → now ≡ before → PrintsCall m act x before now (call_turn m act x)
-  prints : (p : Print) → to_print x ≡ Some p → Appends before.taken now.taken (print_line p.mark) → before.faults ≤ now.faults → PrintsCall m act x before now (call_turn m act x)
-  fails : (p : Print) (n : ℕ) → to_print x ≡ Some p → n < length (print_line p.mark) → Appends before.taken now.taken (take n (print_line p.mark)) → Rose before.faults now.faults
+  prints : (p : Print) → to_print x ≡ Some p → Appends before.taken now.taken (print_line p.mark) → before.faults ≤ now.faults
+      → PrintsCall m act x before now (call_turn m act x)
+  fails : (p : Print) (n : ℕ) → to_print x ≡ Some p → n < length (print_line p.mark) → Appends before.taken now.taken (take n (print_line p.mark))
+      → Rose before.faults now.faults
       → before.faults ≤ now.faults → PrintsCall m act x before now (unprinted_turn (planned_commit act) p.job)
 
 -- == of an event ==
@@ -84,7 +86,8 @@ pub record PrinterDid (reply : Reply) (mark : Option (List ℕ)) (before now : P
   pub later : before.faults ≤ now.faults
 
 -- so of an event that was asked of node m, which is d of its kind: the mark is the one that the plan prints by any view for which it stood
-pub record NodePrints {K S N C R X : Type 0} (n : Ghosts K S N C R) (g : nv.Ghosts S) (kind : Kind N n.Seen X) (m : Node) (d : N) (today : ℤ) (asked : Asked X) (s : K) (reply : Reply)
+pub record NodePrints {K S N C R X : Type 0} (n : Ghosts K S N C R) (g : nv.Ghosts S) (kind : Kind N n.Seen X) (m : Node) (d : N) (today : ℤ)
+    (asked : Asked X) (s : K) (reply : Reply)
     (before now : Printer) : Type 0 where
   pub by_view : (v : View n.Seen) → Stands n g d v s → g.tells → PrinterDid reply (print_of (plan_by n kind m d today v asked).after) before now
   pub mark : Option (List ℕ)

@@ -48,7 +48,8 @@ fn told<T: Tell, K: Node, E: Callee, C: Call<E, K, K::Change>>(
     outcome: &Outcome<E::Refusal, C::Answer>,
     call: &C,
 ) -> T
-    ensures { T.IsOf result (turns.told_turn (E.named callee.now) (commit_in act.now) (said_outcome (E.refuses callee.now) (C.says call.now callee.now) outcome.now)) }
+    ensures { T.IsOf result (turns.told_turn (E.named callee.now) (commit_in act.now)
+        (said_outcome (E.refuses callee.now) (C.says call.now callee.now) outcome.now)) }
 {
     let node = &callee.name();
     match outcome {

@@ -17,7 +17,8 @@ within at n i = nat_le at i && nat_lt i (at + n)
 
 -- one call of the record: a write left these of the written bytes in its range, a sync that failed filled a range, or a sync or restart succeeded
 abbrev pub after_step : List ℕ → Step → Stand → Stand
-after_step bytes (Written at n first) s = record { content = laid s.content at (range bytes first n); base = s.base; written = λ i. s.written i || within at n i }
+after_step bytes (Written at n first) s = record
+    { content = laid s.content at (range bytes first n); base = s.base; written = λ i. s.written i || within at n i }
 after_step bytes (Torn at n byte) s = record { content = laid s.content at (replicate n byte); base = s.base; written = s.written }
 after_step bytes Synced s = record { content = s.content; base = s.content; written = λ i. false }
 

@@ -66,13 +66,15 @@ impl Nv for MemNv {
 
     ghost restart_is = { λ old new result. RestartIs (memory_of old) (memory_of new) result };
 
-    ghost content_is = { λ s tells. content_image s.medium.bytes.items s.medium.steps.items s.medium.start.items s.medium.marks.items s.medium.content.items s.medium.image };
+    ghost content_is = { λ s tells. content_image s.medium.bytes.items s.medium.steps.items s.medium.start.items
+        s.medium.marks.items s.medium.content.items s.medium.image };
 
     ghost image_is = { λ s c tells now. image_now s.medium.bytes.items s.medium.steps.items s.medium.start.items s.medium.marks.items c now };
 
     ghost image_all = { λ s c tells on image. now_image s.medium.bytes.items s.medium.steps.items s.medium.start.items s.medium.marks.items c image };
 
-    ghost sized = { λ s t c tells now. since_sized s.medium.bytes.items s.medium.steps.items s.medium.start.items (length s.medium.content.items) s.medium.marks.items t c s.medium.based now };
+    ghost sized = { λ s t c tells now. since_sized s.medium.bytes.items s.medium.steps.items s.medium.start.items
+        (length s.medium.content.items) s.medium.marks.items t c s.medium.based now };
 
     ghost nested = { λ s tells. since_nested s.medium.bytes.items s.medium.steps.items s.medium.start.items s.medium.marks.items };
 

@@ -41,11 +41,49 @@ impl Model for DevRec {
 
     ghost Value = { State };
 
-    ghost view = { λ r. record { device = r.device; phase = r.phase; key = r.key; registers = r.registers; number = r.number; deadline = r.deadline; last_day = r.last_day; customer = r.customer; origin = r.origin; pending = r.pending; mark = r.mark } };
+    ghost view = { λ r. record {
+      device = r.device;
+      phase = r.phase;
+      key = r.key;
+      registers = r.registers;
+      number = r.number;
+      deadline = r.deadline;
+      last_day = r.last_day;
+      customer = r.customer;
+      origin = r.origin;
+      pending = r.pending;
+      mark = r.mark;
+    } };
 
-    ghost invariant = { λ r. Holds (record { device = r.device; phase = r.phase; key = r.key; registers = r.registers; number = r.number; deadline = r.deadline; last_day = r.last_day; customer = r.customer; origin = r.origin; pending = r.pending; mark = r.mark }) × (kept_code r.key r.mark ≡ r.code) };
+    ghost invariant = { λ r. Holds (record {
+      device = r.device;
+      phase = r.phase;
+      key = r.key;
+      registers = r.registers;
+      number = r.number;
+      deadline = r.deadline;
+      last_day = r.last_day;
+      customer = r.customer;
+      origin = r.origin;
+      pending = r.pending;
+      mark = r.mark;
+    })
+        × (kept_code r.key r.mark ≡ r.code) };
 
-    ghost inverse = { λ r. record { device = r.device; phase = r.phase; key = r.key; registers = r.registers; number = r.number; deadline = r.deadline; last_day = r.last_day; customer = r.customer; origin = r.origin; pending = r.pending; mark = r.mark; code = kept_code r.key r.mark } };
+    ghost inverse = { λ r. record {
+      device = r.device;
+      phase = r.phase;
+      key = r.key;
+      registers = r.registers;
+      number = r.number;
+      deadline = r.deadline;
+      last_day = r.last_day;
+      customer = r.customer;
+      origin = r.origin;
+      pending = r.pending;
+      mark = r.mark;
+      code = kept_code r.key r.mark;
+    } };
 
     ghost inverse_ok = { λ r h. λ i. record r { code = h.1 i } };
 }

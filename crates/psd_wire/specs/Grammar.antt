@@ -30,7 +30,8 @@ kind_code Withdraw = 5
 
 -- the kind of a number, if it has one
 unfoldable pub kind_of : ℕ → Option Kind
-kind_of n = if n == 1 then Some Enrol else if n == 2 then Some Reset else if n == 3 then Some Audit else if n == 4 then Some Refund else if n == 5 then Some Withdraw else None
+kind_of n = if n == 1 then Some Enrol else if n == 2 then Some Reset else if n == 3 then Some Audit else if n == 4 then Some Refund
+    else if n == 5 then Some Withdraw else None
 
 -- the number of a verdict
 abbrev pub verdict_code : Verdict → ℕ
@@ -44,7 +45,8 @@ verdict_code Imbalance = 6
 
 -- the verdict of a number, if it has one
 unfoldable pub verdict_of : ℕ → Option Verdict
-verdict_of n = if n == 0 then Some Granted else if n == 1 then Some NotEnrolled else if n == 2 then Some EnrolledAlready else if n == 3 then Some NoCustomer else if n == 4 then Some Suspended else if n == 5 then Some NoFunds else if n == 6 then Some Imbalance else None
+verdict_of n = if n == 0 then Some Granted else if n == 1 then Some NotEnrolled else if n == 2 then Some EnrolledAlready
+    else if n == 3 then Some NoCustomer else if n == 4 then Some Suspended else if n == 5 then Some NoFunds else if n == 6 then Some Imbalance else None
 
 -- == the layouts ==
 
@@ -58,7 +60,8 @@ request_table s = One ∷ One ∷ Four ∷ Four ∷ One ∷ Four ∷ s ∷ s ∷
 
 -- the numbers of a Request, field by field
 abbrev pub request_values : Request → List ℕ
-request_values q = q.version ∷ 1 ∷ q.device ∷ q.number ∷ kind_code q.kind ∷ q.customer ∷ q.amount ∷ q.ascending ∷ q.descending ∷ q.refunded ∷ q.pieces ∷ cast_unsigned w32 q.day ∷ []
+request_values q = q.version ∷ 1 ∷ q.device ∷ q.number ∷ kind_code q.kind ∷ q.customer ∷ q.amount ∷ q.ascending ∷ q.descending ∷ q.refunded ∷ q.pieces
+    ∷ cast_unsigned w32 q.day ∷ []
 
 -- version, tag, device, number, kind, verdict, amount, deadline, origin
 abbrev pub reply_table : Size → List Size
@@ -173,7 +176,8 @@ request_from vs kind day = record {
 
 -- the Request in these numbers, if its kind and its day are valid
 abbrev pub request_in : List ℕ → Result Message Unread
-request_in vs = given unread.Kind (kind_of (get_or vs 4 0)) (λ kind. given unread.Day (day_of (cast_signed w32 (get_or vs 11 0))) (λ day. Ok (m.Request (request_from vs kind day))))
+request_in vs = given unread.Kind (kind_of (get_or vs 4 0))
+    (λ kind. given unread.Day (day_of (cast_signed w32 (get_or vs 11 0))) (λ day. Ok (m.Request (request_from vs kind day))))
 
 -- the Request in these bytes
 unfoldable pub request_at : List ℕ → Result Message Unread
@@ -194,7 +198,8 @@ reply_from vs kind verdict = record {
 
 -- the Reply in these numbers, if its kind and its verdict are valid
 abbrev pub reply_in : List ℕ → Result Message Unread
-reply_in vs = given unread.Kind (kind_of (get_or vs 4 0)) (λ kind. given unread.Verdict (verdict_of (get_or vs 5 0)) (λ verdict. Ok (m.Reply (reply_from vs kind verdict))))
+reply_in vs = given unread.Kind (kind_of (get_or vs 4 0))
+    (λ kind. given unread.Verdict (verdict_of (get_or vs 5 0)) (λ verdict. Ok (m.Reply (reply_from vs kind verdict))))
 
 -- the Reply in these bytes
 unfoldable pub reply_at : List ℕ → Result Message Unread
@@ -239,7 +244,8 @@ unfoldable pub read : List ℕ → Result Message Unread
 read bytes =
     if nat_lt (length bytes) 2 then Err unread.Length
     else if is_version (get_or bytes 0 0)
-    then given unread.Tag (size_of (get_or bytes 0 0) (get_or bytes 1 0)) (λ n. if length bytes == n then by_tag (get_or bytes 1 0) bytes else Err unread.Length)
+    then given unread.Tag (size_of (get_or bytes 0 0) (get_or bytes 1 0))
+        (λ n. if length bytes == n then by_tag (get_or bytes 1 0) bytes else Err unread.Length)
     else Err unread.Version
 
 -- the message that was read, if it ends in a code

@@ -19,5 +19,6 @@ pub record Committed {N R X M P : Type 0} {g : nv.Ghosts N} {r : rows.Ghosts R X
   pub rests : IsErrOf result Worn → new ≡ old
   pub stays : OnErr result (seen_in new ≡ seen_in old)
   pub answers : Commits (counting r.table) (seen_in old) (seen_in new) x result
-  pub stores : Stores g (IsShown r.table m.size (seen_in old)) (IsShown r.table m.size ((counting r.table).after (seen_in old) x)) (storage_in old) (storage_in new) (end_of_commit result)
+  pub stores : Stores g (IsShown r.table m.size (seen_in old)) (IsShown r.table m.size ((counting r.table).after (seen_in old) x)) (storage_in old)
+      (storage_in new) (end_of_commit result)
   pub writes : Writes g (fill_of r.table m.size (seen_in old) x) (storage_in old) (storage_in new) (begins result) (is_ok result)

@@ -43,4 +43,5 @@ pub record Laws {S X : Type 0} (size : ℕ) (t : Table S X) : Type 0 where
   pub agree : (s : RowList t.Row) → t.IsSound s → t.Agree s
   -- what a boot finds is sound, and so is what a commit makes of it
   pub sound : (m : S) (held : ℕ → Option Held) → Found t m held → t.IsSound (seen_of t m held)
-  pub stays_sound : (s : RowList t.Row) (x : X) → t.IsSound s → t.HasCell x → t.IsFit s x → (counting t).is_worn s x ≡ false → t.IsSound ((counting t).after s x)
+  pub stays_sound : (s : RowList t.Row) (x : X) → t.IsSound s → t.HasCell x → t.IsFit s x → (counting t).is_worn s x ≡ false
+      → t.IsSound ((counting t).after s x)

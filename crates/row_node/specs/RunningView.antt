@@ -45,5 +45,6 @@ module _ {N R X M P : Type 0} {g : nv.Ghosts N} {r : rows.Ghosts R X M P} {m : c
 
   -- what a call of this act did, answered and left
   pub record Performs {F A : Type 0} (act : Act X F A) (old new : RunningRows N R X M P g r m) (result : Result A (Fail F)) : Type 0 where
-    pub performed : Performed g (counting r.table) (fill_of r.table m.size) (IsShown r.table m.size) (λ k. storage_in k.node) (λ k. seen_in k.node) (λ k. k.torn) act old.running new.running result
+    pub performed : Performed g (counting r.table) (fill_of r.table m.size) (IsShown r.table m.size) (λ k. storage_in k.node) (λ k. seen_in k.node)
+        (λ k. k.torn) act old.running new.running result
     pub size : g.size (storage_of new) ≡ bytes_of r.table m.size

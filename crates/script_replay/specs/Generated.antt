@@ -35,7 +35,8 @@ EndsWith status.Memory text line = ⊥
 EndsWith status.TooLong text line = ⊥
 
 -- So far these events were done, and these are still to come; the tally is that of the replies.
-pub record InTheMidst {B : Type 0} (Does : B → B → List StepRecord → Type 0) (seed count : ℕ) (to_come : List Event) (tally : Tally) (old new : B) : Type 0 where
+pub record InTheMidst {B : Type 0} (Does : B → B → List StepRecord → Type 0) (seed count : ℕ) (to_come : List Event) (tally : Tally)
+    (old new : B) : Type 0 where
   pub done : List StepRecord
   pub all : events_of done ++ to_come ≡ generated seed count
   pub did : Does old new done

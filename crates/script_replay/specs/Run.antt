@@ -92,4 +92,5 @@ pub record DidRun (n : Nodes)
   pub printed : Appends old.outside.printer.taken new.outside.printer.taken (printed_of trace)
   pub balanced : AreBalanced n old new trace
   pub over : (τ : Tariff) (L : Ledger) → IsOfTexts τ → StandsFor n τ old.bench L → n.storage.tells → DidOver n τ L old new trace
-  pub throughout : (τ : Tariff) (L : Ledger) → IsOfTexts τ → StandsFor n τ old.bench L → n.storage.tells → Throughout n τ (Begin ∷ L) (scene begun old.outside) behind trace steps
+  pub throughout : (τ : Tariff) (L : Ledger) → IsOfTexts τ → StandsFor n τ old.bench L → n.storage.tells
+      → Throughout n τ (Begin ∷ L) (scene begun old.outside) behind trace steps

@@ -35,7 +35,8 @@ module _ (n : Nodes) where
       pub same : bench.begun ≡ begun
 
 -- what a run did over the words that were given, where it is called by this one
-pub record RanSide {K T : Type 0} (k : Ghosts K T) (word : List ℕ) (outcome : SideStatus) (given : List (List ℕ)) (WasDone : List (SideStep k.Own) → Type 0) (before now : Streams) : Type 0 where
+pub record RanSide {K T : Type 0} (k : Ghosts K T) (word : List ℕ) (outcome : SideStatus) (given : List (List ℕ))
+    (WasDone : List (SideStep k.Own) → Type 0) (before now : Streams) : Type 0 where
   pub replays : given ≡ word ∷ [] → Replayed (side_lines k) outcome WasDone before.left now.left before.taken now.taken
   pub nothing : (given ≡ word ∷ [] → ⊥) → WasDone []
 
@@ -51,5 +52,6 @@ pub record EndsSide {K T : Type 0} (k : Ghosts K T) (word : List ℕ) (outcome :
 
 -- it comes to its end where no stream failed and no commit of the desk's storage
 abbrev pub CompletesSide : {K T : Type 0} (k : Ghosts K T) (word : List ℕ) (outcome : SideStatus) (given : List (List ℕ)) (before now : Streams) → Type 0
-CompletesSide k word outcome given before now = given ≡ word ∷ [] → (Rose before.read_faults now.read_faults → ⊥) → (Rose before.write_faults now.write_faults → ⊥) → (outcome ≡ Stopped → ⊥)
+CompletesSide k word outcome given before now = given ≡ word ∷ [] → (Rose before.read_faults now.read_faults → ⊥)
+    → (Rose before.write_faults now.write_faults → ⊥) → (outcome ≡ Stopped → ⊥)
     → IfSome before.left (λ bytes. (end : EndsAs (side_grammar k) status.Done bytes) → IsComplete (side_grammar k) outcome end.passed)

@@ -38,14 +38,17 @@ AreNone given = (w : Words) → AreInRange w → given ≢ program_words w
 
 -- What a run did over the words that were given: it did the script's lines, or all events of a generated run, or nothing.
 pub record Ran (outcome : Status) (given : List (List ℕ)) (WasDone : List StepRecord → Type 0) (before now : Streams) : Type 0 where
-  pub replays : given ≡ program_words Replay → Replayed script_lines (Run outcome) (λ trace. WasDone (done_in trace)) before.left now.left before.taken now.taken
-  pub generates : (seed count : ℕ) → AreInRange (Generate seed count) → given ≡ program_words (Generate seed count) → Generated outcome seed count WasDone before.taken now.taken
+  pub replays : given ≡ program_words Replay → Replayed script_lines (Run outcome)
+      (λ trace. WasDone (done_in trace)) before.left now.left before.taken now.taken
+  pub generates : (seed count : ℕ) → AreInRange (Generate seed count) → given ≡ program_words (Generate seed count)
+      → Generated outcome seed count WasDone before.taken now.taken
   pub nothing : AreNone given → WasDone []
 
 -- why a run over the words that were given ends so
 pub record EndsRun (outcome : Status) (given : List (List ℕ)) (before now : Streams) : Type 0 where
   -- StepRecord, Script and TooLong come if and only if the bytes of the script say so, and only a fault of a stream and lack of memory hinder them
-  pub exact : given ≡ program_words Replay → IfSome before.left (λ bytes. IsByScript (Run outcome) → (s : Status) → (outcome ≡ s) ↔ EndsAs script_grammar s bytes)
+  pub exact : given ≡ program_words Replay → IfSome before.left
+      (λ bytes. IsByScript (Run outcome) → (s : Status) → (outcome ≡ s) ↔ EndsAs script_grammar s bytes)
   pub words : (outcome ≡ status.Words) ↔ AreNone given
   pub untouched : outcome ≡ status.Words → now ≡ before
   -- nothing is taken of the script and of the rates for a generated run, and nothing is printed
@@ -61,4 +64,5 @@ pub record EndsRun (outcome : Status) (given : List (List ℕ)) (before now : St
 pub record Completes (outcome : Status) (given : List (List ℕ)) (before now : Streams) : Type 0 where
   pub script : given ≡ program_words Replay → (Rose before.read_faults now.read_faults → ⊥) → (Rose before.write_faults now.write_faults → ⊥)
       → IfSome before.left (λ bytes. (end : EndsAs script_grammar status.Done bytes) → IsComplete script_grammar (Run outcome) end.passed)
-  pub generated : (seed count : ℕ) → AreInRange (Generate seed count) → given ≡ program_words (Generate seed count) → (Rose before.write_faults now.write_faults → ⊥) → outcome ≡ status.Done
+  pub generated : (seed count : ℕ) → AreInRange (Generate seed count) → given ≡ program_words (Generate seed count)
+      → (Rose before.write_faults now.write_faults → ⊥) → outcome ≡ status.Done

@@ -26,7 +26,8 @@ abbrev pub KeepsNone : {N : Type 0} {own : nv.Ghosts N} → Desk N own → Type 
 KeepsNone desk = (c : ℕ) → kept (rows_of desk) c ≡ None
 
 -- A desk without a claim, and a bench that represented the empty ledger, did the steps: all that is said of a run with claims by a history is so.
-pub record DidFreshClaims (n : Nodes) {N : Type 0} (own : nv.Ghosts N) (old new : SceneOf n) (outcome : SideStatus) (trace : List (SideStep ClaimLine)) : Type 0 where
+pub record DidFreshClaims (n : Nodes) {N : Type 0} (own : nv.Ghosts N) (old new : SceneOf n) (outcome : SideStatus)
+    (trace : List (SideStep ClaimLine)) : Type 0 where
   pub before : Desk N own
   pub after : Desk N own
   pub none : KeepsNone before

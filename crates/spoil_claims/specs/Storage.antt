@@ -45,7 +45,8 @@ module _ {N : Type 0} {g : Ghosts N} where
     -- where one had failed before, this one answered Failed, and nothing was written
     pub before : has_failed old ≡ true → (torn ≡ None) × IsUntouched old new
     -- otherwise it answered Power, where power was cut, or Fault, where the count of faults rose; and it is the one that was torn
-    pub why : has_failed old ≡ false → outcome ≡ Stopped → IsSome torn × (WasCut (meters_of old) (meters_of new) ⊎ Rose (meters_of old).faults (meters_of new).faults)
+    pub why : has_failed old ≡ false → outcome ≡ Stopped → IsSome torn
+        × (WasCut (meters_of old) (meters_of new) ⊎ Rose (meters_of old).faults (meters_of new).faults)
     pub whole : (outcome ≡ Stopped → ⊥) → torn ≡ None
     -- each image shows the claims, or those with the torn commit
     pub shows : g.tells → has_failed old ≡ false → (c : List ℕ) → Image (g.times (storage_of new)) c

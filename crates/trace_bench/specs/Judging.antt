@@ -57,7 +57,8 @@ module _ (τ : Tariff) (H : Ledger) (e : Event) (left line : List ℕ) where
 
   -- what is judged of the line: how much of the rates was taken, what is sent next, and what is added to what was sent and released in all runs
   abbrev pub IsHeard : Audit → Result Heard Finding → Type 0
-  IsHeard a (Ok heard) = (reply : Reply) × IsToldBy (SeesRun (sending heard.sent a)) reply × (heard.taken ≡ length (text_with reply)) × Adds heard.sent heard.released H (ledger_with reply)
+  IsHeard a (Ok heard) = (reply : Reply) × IsToldBy (SeesRun (sending heard.sent a)) reply × (heard.taken ≡ length (text_with reply))
+      × Adds heard.sent heard.released H (ledger_with reply)
   IsHeard a (Err (Wrong due)) = IsUntoldBy (SeesRun a) due
   IsHeard a (Err Memory) = Unit {0}
 

@@ -30,7 +30,8 @@ due_of text = (rates_turn text (answer text)).reply
 -- the source failed; or the text was read, and is answered so
 pub data ReadsSo (left line : List ℕ) (old new : Option RateTable) (taken : ℕ) : Type 0 where
   failed : text_of r.RatesFault ≡ line → taken ≡ 0 → new ≡ old → ReadsSo left line old new taken
-  read : text_of (due_of (text_of_rates left)) ≡ line → IsWholeReply (due_of (text_of_rates left)) → taken ≡ length (text_of_rates left) → new ≡ rates_after old (answer (text_of_rates left)) → ReadsSo left line old new taken
+  read : text_of (due_of (text_of_rates left)) ≡ line → IsWholeReply (due_of (text_of_rates left)) → taken ≡ length (text_of_rates left)
+      → new ≡ rates_after old (answer (text_of_rates left)) → ReadsSo left line old new taken
 
 -- the line is that of neither
 pub record ReadsNever (left line : List ℕ) (old new : Option RateTable) (due : Reply) : Type 0 where

@@ -66,7 +66,8 @@ pub record IsReady (a : Audit) : Type 0 where
 -- what the auditor has of the run and of each node is what the ledger shows: the day, the messages and the rates, and the nodes
 pub record SeesRun (a : Audit) (H : Ledger) : Type 0 where
   pub day : HasDay a.day a.messages a.rates H
-  pub devices : (i : ℕ) (s : Traced DeviceRecord State) → slice_get a.devices i ≡ Some s → device.view_of s ≡ view_in (Device (i + 1)) (bench_kinds.devices.seen (i + 1)) H
+  pub devices : (i : ℕ) (s : Traced DeviceRecord State) → slice_get a.devices i ≡ Some s
+      → device.view_of s ≡ view_in (Device (i + 1)) (bench_kinds.devices.seen (i + 1)) H
   pub centre : centre.view_of a.centre ≡ view_in Centre (bench_kinds.centre.seen tt) H
   pub host : host.view_of a.host ≡ view_in Host (bench_kinds.host.seen tt) H
   pub verifier : verifier.view_of a.verifier ≡ view_in Verifier (bench_kinds.verifier.seen tt) H

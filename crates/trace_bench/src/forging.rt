@@ -62,7 +62,8 @@ fn is_forged_by(accounts: &Accounts, device: u32, bytes: &[u8], known: &ByteSet<
 // Whether bytes that are given to this device are a forged Reply.
 fn is_forged_reply(auditor: &Auditor, device: DevNo, bytes: &[u8]) -> bool
     requires ready { IsReady (audit_of auditor.now) }
-    ensures { OfDevice device (audit_of auditor.now) (λ s. result ≡ forging.forged_reply (seen_of s.record).state device bytes.now (audit_of auditor.now).known.sent (read bytes.now)) }
+    ensures { OfDevice device (audit_of auditor.now)
+        (λ s. result ≡ forging.forged_reply (seen_of s.record).state device bytes.now (audit_of auditor.now).known.sent (read bytes.now)) }
 {
     let traced = traced_of(&auditor.devices, device);
     match &read_message(bytes) {

@@ -90,7 +90,8 @@ fn rates_fault(event: &Event, day: Option<DayNo>, prefix: &[u8]) -> Option<Reply
 fn begun(auditor: &Auditor, event: &Event, due: &Reply, prefix: &[u8]) -> Option<Reply>
     requires whole { IsWholeEvent event.now }
     requires ready { IsReady (audit_of auditor.now) }
-    ensures exact { (τ : Tariff) (H : Ledger) (left : List ℕ) → Sees (audit_of auditor.now) H → IsDue τ H event.now left due.now → Comes τ H event.now left prefix.now result }
+    ensures exact { (τ : Tariff) (H : Ledger) (left : List ℕ) → Sees (audit_of auditor.now) H → IsDue τ H event.now left due.now
+        → Comes τ H event.now left prefix.now result }
     ensures short { IsSome result → length prefix.now ≤ 256 }
 {
     if begins(due, prefix) {
@@ -108,7 +109,8 @@ fn begun(auditor: &Auditor, event: &Event, due: &Reply, prefix: &[u8]) -> Option
 // Whether both `up`s of the node begin so, where this is the answer: it may have come on with its open commit, or without.
 fn begins_both_ups(auditor: &Auditor, due: &Reply, prefix: &[u8]) -> bool
     requires ready { IsReady (audit_of auditor.now) }
-    ensures exact { (H : Ledger) → Sees (audit_of auditor.now) H → MatchBool result (BeginsBothUps due.now H prefix.now) (BeginsBothUps due.now H prefix.now → ⊥) }
+    ensures exact { (H : Ledger) → Sees (audit_of auditor.now) H
+        → MatchBool result (BeginsBothUps due.now H prefix.now) (BeginsBothUps due.now H prefix.now → ⊥) }
 {
     begins(due, prefix) && other_up(auditor, due, prefix).is_some()
 }
@@ -209,7 +211,8 @@ fn lose_power_there(
     ensures kept { keeps (audit_of auditor.new) ≡ keeps (audit_of auditor.old) }
     ensures few { length (audit_of auditor.new).messages ≤ length (audit_of auditor.old).messages + 1 }
     ensures unsent { IfOk result (λ b. b ≡ false → (audit_of auditor.new).messages ≡ (audit_of auditor.old).messages) }
-    ensures lost { AtEach (audit_of auditor.old) event.now (λ τ H. IfOk result (λ b. LosesThere τ H event.now left.now prefix.now node.now (audit_of auditor.new) b)) }
+    ensures lost { AtEach (audit_of auditor.old) event.now
+        (λ τ H. IfOk result (λ b. LosesThere τ H event.now left.now prefix.now node.now (audit_of auditor.new) b)) }
     ensures short { result ≡ Ok true → length prefix.now ≤ 256 }
 {
     if begins_failure(node, prefix) {
@@ -260,7 +263,8 @@ fn tell_done(
     ensures ready { IsReady (audit_of auditor.new) }
     ensures kept { keeps (audit_of auditor.new) ≡ keeps (audit_of auditor.old) }
     ensures few { length (audit_of auditor.new).messages ≤ length (audit_of auditor.old).messages + 1 }
-    ensures done { AtEach (audit_of auditor.old) event.now (λ τ H. OnOk result ((x : Reply) × IsTold τ H event.now left.now (text_of reply.now) (audit_of auditor.new) x)) }
+    ensures done { AtEach (audit_of auditor.old) event.now
+        (λ τ H. OnOk result ((x : Reply) × IsTold τ H event.now left.now (text_of reply.now) (audit_of auditor.new) x)) }
 {
     let mut line = Line::new();
     put_reply(&mut line, reply);

@@ -121,7 +121,8 @@ impl Auditor {
     /// What `reconcile` answers of the device where it and the centre are on, in mills, by the commits that count.
     pub fn reconcile_of(&self, device: DevNo) -> Reply
         requires ready { IsReady (audit_of self.now) }
-        ensures by_record { OfDevice device (audit_of self.now) (λ s. result ≡ reconcile_by device (seen_of s.record) (cells_of (audit_of self.now).centre.record)) }
+        ensures by_record { OfDevice device (audit_of self.now)
+            (λ s. result ≡ reconcile_by device (seen_of s.record) (cells_of (audit_of self.now).centre.record)) }
         ensures by_ledger { (H : Ledger) → Sees (audit_of self.now) H → result ≡ reconcile_by device (device_in device H) (centre_in H) }
     {
         let traced = traced_of(&self.devices, device);

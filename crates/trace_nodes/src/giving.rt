@@ -67,7 +67,8 @@ pub fn judge_giving<R: Record<X>, X: Copy>(
     requires plain { IsPlain act.now }
     requires unprinted { PrintsNone act.now }
     ensures settled { IsSettled R.counting R.IsFit R.seen traced.new }
-    ensures judged { JudgedGivingCall R.counting node.now (view_of R.counting R.seen traced.old) act.now line.now (view_of R.counting R.seen traced.new) result }
+    ensures judged { JudgedGivingCall R.counting node.now (view_of R.counting R.seen traced.old) act.now line.now
+        (view_of R.counting R.seen traced.new) result }
 {
     let told = told_outcome(traced, node, act, line);
     match &told {

@@ -64,7 +64,8 @@ fn take_unprinted<R: Record<X>, X: Copy>(
     requires printed { (j : ℕ) × (due.now ≡ r.Printed j) }
     ensures settled { IsSettled R.counting R.IsFit R.seen traced.new }
     ensures leaves { (j : ℕ) → view_of R.counting R.seen traced.new
-        ≡ view_after R.counting (r.PrinterFault j) (commit_of R.counting (view_of R.counting R.seen traced.old) act.now) (view_of R.counting R.seen traced.old) }
+        ≡ view_after R.counting (r.PrinterFault j) (commit_of R.counting (view_of R.counting R.seen traced.old) act.now)
+        (view_of R.counting R.seen traced.old) }
 {
     if let Act::Commits(_, change, _) = act {
         traced.record.put(change);

@@ -58,7 +58,8 @@ imprint_at number (Some given) = record { line = number; given = given } ∷ []
 
 -- the mark is the one that the plan of a `print` prints, at each history that the auditor has
 abbrev pub IsDueMark : Audit → Event → Option (List ℕ) → Type 0
-IsDueMark a e due = (j : ℕ) → e ≡ ev.Print j → (τ : Tariff) (H : Ledger) → History τ editions H → Sees a H → print_of (plan τ todays_rules H (ev.Print j) []).after ≡ due
+IsDueMark a e due = (j : ℕ) → e ≡ ev.Print j → (τ : Tariff) (H : Ledger) → History τ editions H → Sees a H
+    → print_of (plan τ todays_rules H (ev.Print j) []).after ≡ due
 
 -- a `print` whose plan prints this mark, with this line of the report, gave this; any other event gave nothing
 pub record GivesSo (e : Event) (due : Option (List ℕ)) (line : List ℕ) (given : Option Given) : Type 0 where

@@ -60,7 +60,8 @@ pub record Progress (count : ℕ) (script0 report0 rates0 script report rates : 
 
 -- the verdict falls there, and what is open of what was printed was put behind these imprints
 abbrev pub FellPut : ℕ → List ℕ → List ℕ → List ℕ → Audit → Audit → List Imprint → List Imprint → Verdict → Type 0
-FellPut number script report rates old new before after v = (fell : Fell number script report rates old new v) × (after ≡ before ++ imprint_at number (last_given number (lines_of script) report v fell.falls))
+FellPut number script report rates old new before after v = (fell : Fell number script report rates old new v)
+    × (after ≡ before ++ imprint_at number (last_given number (lines_of script) report v fell.falls))
 
 -- What becomes of the line of this number: it was paired, and so much taken of the rates for it; or the verdict falls there.
 abbrev pub TurnsSo : ℕ → (script lines report told rates : List ℕ) → Audit → Audit → List Imprint → List Imprint → Result ℕ Verdict → Type 0
@@ -81,7 +82,8 @@ IsOver end number behind v = ((behind ≡ []) × (v ≡ Lawful end)) ⊎ ((0 < l
 -- == by what was read ==
 
 -- The event of the line of this number was answered, or the verdict falls there: this prefix of the report was read before, and more of it then.
-pub record IsAnswer (number : ℕ) (e : Event) (prefix rates : List ℕ) (old new : Audit) (before after : List Imprint) (report0 report1 : Option (List ℕ)) (result : Result ℕ Verdict) : Type 0 where
+pub record IsAnswer (number : ℕ) (e : Event) (prefix rates : List ℕ) (old new : Audit) (before after : List Imprint)
+    (report0 report1 : Option (List ℕ)) (result : Result ℕ Verdict) : Type 0 where
   pub report : IsRead report0 report1
   pub goes_on : IfOk result (λ used. report.is_all ≡ false)
   pub so : OfTexts report (λ behind told. (script line lines : List ℕ) → BeginsWith script line lines e
@@ -97,14 +99,16 @@ used_in (Ok step) = Ok step.rates
 used_in (Err v) = Err v
 
 -- What becomes of the line of this number, whatever stands behind what was read.
-pub record IsTurn (number : ℕ) (rates : List ℕ) (old new : Audit) (before after : List Imprint) (script0 script1 report0 report1 : Option (List ℕ)) (result : Result Step Verdict) : Type 0 where
+pub record IsTurn (number : ℕ) (rates : List ℕ) (old new : Audit) (before after : List Imprint) (script0 script1 report0 report1 : Option (List ℕ))
+    (result : Result Step Verdict) : Type 0 where
   pub script : IsRead script0 script1
   pub report : IsRead report0 report1
   pub goes_on : SeesEnds result script.is_all report.is_all
   pub so : OfTexts script (λ text lines. OfTexts report (λ answers told. TurnsSo number text lines answers told rates old new before after (used_in result)))
 
 -- So many lines were paired, whatever stands behind what was read.
-pub record IsProgress (count : ℕ) (rates0 rates : List ℕ) (old new : Audit) (before after : List Imprint) (script0 script1 report0 report1 : Option (List ℕ)) : Type 0 where
+pub record IsProgress (count : ℕ) (rates0 rates : List ℕ) (old new : Audit) (before after : List Imprint)
+    (script0 script1 report0 report1 : Option (List ℕ)) : Type 0 where
   pub script : List ℕ
   pub report : List ℕ
   pub script_read : Consumes script0 script1 script

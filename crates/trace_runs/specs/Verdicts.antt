@@ -196,10 +196,12 @@ imprints_from number (Answered line e answer given ∷ pairs) = imprint_at numbe
 -- it says so, and what the printer was given was put behind what it was given before; and behind that what is open of it, where the run was stopped
 pub record Audited (v : Verdict) (script report rates : List ℕ) (old new : Audit) (before after : List Imprint) : Type 0 where
   pub says : Says v script report rates old new
-  pub prints : after ≡ before ++ (imprints_from 1 says.pairs ++ imprint_at (length says.pairs + 1) (last_given (length says.pairs + 1) says.rest says.told v says.falls))
+  pub prints : after ≡ before ++ (imprints_from 1 says.pairs ++ imprint_at (length says.pairs + 1)
+      (last_given (length says.pairs + 1) says.rest says.told v says.falls))
 
 -- WHAT AN AUDIT SAYS OF WHAT IT READ: whatever stands behind that in the script and in the report, which is nothing where the end was seen.
-pub record AuditedOf (v : Verdict) (script0 script1 report0 report1 : Option (List ℕ)) (rates : List ℕ) (old new : Audit) (before after : List Imprint) : Type 0 where
+pub record AuditedOf (v : Verdict) (script0 script1 report0 report1 : Option (List ℕ)) (rates : List ℕ) (old new : Audit)
+    (before after : List Imprint) : Type 0 where
   pub script : IsRead script0 script1
   pub report : IsRead report0 report1
   pub so : OfTexts script (λ text lines. OfTexts report (λ answers told. Audited v text answers rates old new before after))

@@ -49,7 +49,8 @@ fn judge_line<R: Source>(
         imprints.old.items imprints.new.items (⟦<ReadAhead<R> as Source>⟧.left report.old) (⟦<ReadAhead<R> as Source>⟧.left report.new) result }
     ensures counted { AnswerTakes 0 (⟦<ReadAhead<R> as Source>⟧.left report.old) (⟦<ReadAhead<R> as Source>⟧.left report.new) result }
     ensures later { ⟦<ReadAhead<R> as Source>⟧.faults report.old ≤ ⟦<ReadAhead<R> as Source>⟧.faults report.new }
-    ensures failed { IfErr result (λ v. FailsSo Input.Report (⟦<ReadAhead<R> as Source>⟧.faults report.old) (⟦<ReadAhead<R> as Source>⟧.faults report.new) v × HasScript v) }
+    ensures failed { IfErr result (λ v. FailsSo Input.Report (⟦<ReadAhead<R> as Source>⟧.faults report.old)
+        (⟦<ReadAhead<R> as Source>⟧.faults report.new) v × HasScript v) }
 {
     one_reply();
     let mark = due_mark(auditor, event);
@@ -90,7 +91,8 @@ fn hear<R: Source>(
         (⟦<ReadAhead<R> as Source>⟧.left report.old) (⟦<ReadAhead<R> as Source>⟧.left report.new) result }
     ensures counted { AnswerTakes 1 (⟦<ReadAhead<R> as Source>⟧.left report.old) (⟦<ReadAhead<R> as Source>⟧.left report.new) result }
     ensures later { ⟦<ReadAhead<R> as Source>⟧.faults report.old ≤ ⟦<ReadAhead<R> as Source>⟧.faults report.new }
-    ensures failed { IfErr result (λ v. FailsSo Input.Report (⟦<ReadAhead<R> as Source>⟧.faults report.old) (⟦<ReadAhead<R> as Source>⟧.faults report.new) v × HasScript v) }
+    ensures failed { IfErr result (λ v. FailsSo Input.Report (⟦<ReadAhead<R> as Source>⟧.faults report.old)
+        (⟦<ReadAhead<R> as Source>⟧.faults report.new) v × HasScript v) }
 {
     match read_line(report, buf) {
         LineRead::Line(len, is_ended) => {
@@ -129,7 +131,8 @@ pub(crate) fn answer<R: Source>(
         (⟦<ReadAhead<R> as Source>⟧.left report.old) (⟦<ReadAhead<R> as Source>⟧.left report.new) result }
     ensures counted { AnswerTakes 1 (⟦<ReadAhead<R> as Source>⟧.left report.old) (⟦<ReadAhead<R> as Source>⟧.left report.new) result }
     ensures later { ⟦<ReadAhead<R> as Source>⟧.faults report.old ≤ ⟦<ReadAhead<R> as Source>⟧.faults report.new }
-    ensures failed { IfErr result (λ v. FailsSo Input.Report (⟦<ReadAhead<R> as Source>⟧.faults report.old) (⟦<ReadAhead<R> as Source>⟧.faults report.new) v × HasScript v) }
+    ensures failed { IfErr result (λ v. FailsSo Input.Report (⟦<ReadAhead<R> as Source>⟧.faults report.old)
+        (⟦<ReadAhead<R> as Source>⟧.faults report.new) v × HasScript v) }
 {
     if index(alloc, auditor, event).is_err() {
         return Err(Verdict::Memory);

@@ -82,7 +82,8 @@ fn turn<S: Source, R: Source>(
     ensures kept { keeps (audit_of auditor.new) ≡ keeps (audit_of auditor.old) }
     ensures few { length (audit_of auditor.new).messages ≤ length (audit_of auditor.old).messages + 1 }
     ensures turns { IsTurn number rates.now (audit_of auditor.old) (audit_of auditor.new) imprints.old.items imprints.new.items
-        (⟦<ReadAhead<S> as Source>⟧.left script.old) (⟦<ReadAhead<S> as Source>⟧.left script.new) (⟦<ReadAhead<R> as Source>⟧.left report.old) (⟦<ReadAhead<R> as Source>⟧.left report.new) result }
+        (⟦<ReadAhead<S> as Source>⟧.left script.old) (⟦<ReadAhead<S> as Source>⟧.left script.new) (⟦<ReadAhead<R> as Source>⟧.left report.old)
+        (⟦<ReadAhead<R> as Source>⟧.left report.new) result }
     ensures script_later { ⟦<ReadAhead<S> as Source>⟧.faults script.old ≤ ⟦<ReadAhead<S> as Source>⟧.faults script.new }
     ensures counted { TurnTakes (⟦<ReadAhead<R> as Source>⟧.left report.old) (⟦<ReadAhead<R> as Source>⟧.left report.new) result }
     ensures few_answers { IfOk result (λ step. step.answers ≤ 1) }
@@ -146,7 +147,8 @@ pub fn audit_run<S: Source, R: Source>(
     requires ready { IsReady (audit_of auditor.old) }
     ensures ready { IsReady (audit_of auditor.new) }
     ensures kept { keeps (audit_of auditor.new) ≡ keeps (audit_of auditor.old) }
-    ensures audited { AuditedOf result.verdict (⟦<ReadAhead<S> as Source>⟧.left script.old) (⟦<ReadAhead<S> as Source>⟧.left script.new) (⟦<ReadAhead<R> as Source>⟧.left report.old) (⟦<ReadAhead<R> as Source>⟧.left report.new) rates.now
+    ensures audited { AuditedOf result.verdict (⟦<ReadAhead<S> as Source>⟧.left script.old) (⟦<ReadAhead<S> as Source>⟧.left script.new)
+        (⟦<ReadAhead<R> as Source>⟧.left report.old) (⟦<ReadAhead<R> as Source>⟧.left report.new) rates.now
         (audit_of auditor.old) (audit_of auditor.new) imprints.old.items imprints.new.items }
     ensures counted { HasAnswers result.answers (⟦<ReadAhead<R> as Source>⟧.left report.old) (⟦<ReadAhead<R> as Source>⟧.left report.new) result.verdict }
     ensures script_later { ⟦<ReadAhead<S> as Source>⟧.faults script.old ≤ ⟦<ReadAhead<S> as Source>⟧.faults script.new }

@@ -54,7 +54,8 @@ told k again = record { device = k.device; piece = k.piece; again = again }
 abbrev pub answered_act : ℕ → Mark → ℕ → Result Bool ScanRefusal → ScanAct Accepted
 answered_act n k cell (Err x) = Refuse x
 answered_act n k cell (Ok true) = Tell (told k true)
-answered_act n k cell (Ok false) = Commits (c.Accepted k.device k.piece n) (change.Accept cell k.device (block_of k.piece) (k.piece % BLOCK_PIECES) n) (told k false)
+answered_act n k cell (Ok false) = Commits (c.Accepted k.device k.piece n) (change.Accept cell k.device (block_of k.piece) (k.piece % BLOCK_PIECES) n)
+    (told k false)
 
 -- where the next cell lies beyond the last, all blocks are in use
 abbrev pub spot_act : ℕ → Mark → ℤ → Spot → ScanAct Accepted
