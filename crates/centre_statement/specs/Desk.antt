@@ -40,8 +40,12 @@ listed_in answers.Full movements = []
 listed_in (answers.Balance reply) movements = []
 
 abbrev pub view_of : StatementDesk → View
-view_of d = record { watch = d.watch; current = open_in d.current d.balance d.is_full d.movements.items; said = d.said;
-    listed = listed_in d.said d.movements.items }
+view_of d = record {
+  watch = d.watch;
+  current = open_in d.current d.balance d.is_full d.movements.items;
+  said = d.said;
+  listed = listed_in d.said d.movements.items;
+}
 
 -- == what an entry does ==
 

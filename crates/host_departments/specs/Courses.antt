@@ -71,7 +71,7 @@ module _ {N : Type 0} {g : Ghosts N} where
   Assigns d j old next new =
       (Has (rows_of old) d j × Says (answers.Again j d) old next new)
       ⊎ ((Has (rows_of old) d j → ⊥) × ((AnotherHas (rows_of old) d j × Says (answers.Taken j) old next new) ⊎
-          ((AnotherHas (rows_of old) d j → ⊥) × Free d j old next new)))
+      ((AnotherHas (rows_of old) d j → ⊥) × Free d j old next new)))
 
   abbrev pub AssignsBy : Option ℕ → ℕ → ℕ → Departments N g → Next → Departments N g → Type 0
   AssignsBy None d j old next new = Says (answers.Unknown d) old next new
@@ -86,7 +86,7 @@ module _ {N : Type 0} {g : Ghosts N} where
   abbrev pub Begins : Departments N g → DepartmentLine → Next → Departments N g → Type 0
   Begins old (Quota d q) next new =
       Either (nat_lt q (spent (rows_of old) d)) (Says (answers.Below (spent (rows_of old) d)) old next new)
-          (Tries (d - 1) (row.Quota q) (answers.Quota d q) old next new)
+      (Tries (d - 1) (row.Quota q) (answers.Quota d q) old next new)
   Begins old (Assign d j) next new = AssignsBy (quota (rows_of old) d) d j old next new
   Begins old (Spent d) next new = SpentBy (quota (rows_of old) d) d old next new
   Begins old (Print j) next new = (IsAssigned (rows_of old) j → ⊥) × Says (answers.Unassigned j) old next new

@@ -38,7 +38,7 @@ pub record DidFreshDepartments (n : Nodes) {N : Type 0} (own : nv.Ghosts N) (old
   pub bench : DidFresh n old new did.side.ended (steps_of trace)
   pub follows : (τ : Tariff) → IsOfTexts τ
       → FollowLedger (StepsBy n) τ (Begin ∷ []) (scene did.side.begun old.outside) (rows_of before) trace did.side.behind.scene
-          (rows_of after) did.failed did.answers
+      (rows_of after) did.failed did.answers
   pub holds : (τ : Tariff) → IsOfTexts τ → AreUnforged τ Unforged (Begin ∷ []) (steps_of trace)
       → DepartmentsHold (rows_of after) (ledger_after τ (Begin ∷ []) (steps_of trace))
       × DepartmentsHold (with_commit did.failed (rows_of after)) (ledger_after τ (Begin ∷ []) (steps_of trace))

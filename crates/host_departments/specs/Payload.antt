@@ -27,7 +27,7 @@ unfoldable pub job_from : ℕ → List ℕ → Option DepartmentRow
 job_from k vs =
     if get_or vs 1 0 == department_of k
     then (if nat_le 1 (get_or vs 0 0) && (nat_le 1 (get_or vs 2 0) && nat_le (get_or vs 2 0) MOST_POSTAGE)
-        then Some (Job (get_or vs 0 0) (get_or vs 2 0)) else None)
+    then Some (Job (get_or vs 0 0) (get_or vs 2 0)) else None)
     else None
 
 abbrev pub row_from : ℕ → List ℕ → Option DepartmentRow

@@ -33,8 +33,13 @@ module _ {N : Type 0} {g : Ghosts N} where
 
   -- their cells and storage
   abbrev pub store_of : Departments N g → RowView
-  store_of desk = record { cells = cells_of desk.room; held = kept_in desk.room; content = g.content desk.nv; times = g.times desk.nv;
-      meters = g.meters desk.nv }
+  store_of desk = record {
+    cells = cells_of desk.room;
+    held = kept_in desk.room;
+    content = g.content desk.nv;
+    times = g.times desk.nv;
+    meters = g.meters desk.nv;
+  }
 
   -- whether a commit failed, the storage, and what is kept of each cell
   abbrev pub view_of : Departments N g → DeskView N

@@ -25,7 +25,7 @@ AreScanned m number [] texts = ⊥
 AreScanned m number (d ∷ rest) texts =
     (d.event ≡ scan_of m number)
     × ((IsAccepted d.reply × Either (number == length m.marks) ((rest ≡ []) × (texts ≡ yes_text m.opening.count m.opening.total ∷ []))
-        (AreScanned m (number + 1) rest texts))
+    (AreScanned m (number + 1) rest texts))
     ⊎ ((IsAccepted d.reply → ⊥) × (rest ≡ []) × (texts ≡ no_piece_text number d.reply ∷ [])))
 
 -- it was refused for the first cause that there is; otherwise its pieces were scanned

@@ -34,8 +34,13 @@ module _ {N : Type 0} {g : Ghosts N} where
 
   -- its cells and their storage
   abbrev pub store_of : Desk N g → RowView
-  store_of desk = record { cells = cells_of desk.room; held = kept_in desk.room; content = g.content desk.nv; times = g.times desk.nv;
-      meters = g.meters desk.nv }
+  store_of desk = record {
+    cells = cells_of desk.room;
+    held = kept_in desk.room;
+    content = g.content desk.nv;
+    times = g.times desk.nv;
+    meters = g.meters desk.nv;
+  }
 
   -- whether a commit failed, the storage, and what is kept of each cell
   abbrev pub view_of : Desk N g → DeskView N
