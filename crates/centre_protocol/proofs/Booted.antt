@@ -17,7 +17,7 @@ use Rattle.centre_protocol.specs.Cells.{row_in, device_below, customer_above, bo
 use Rattle.centre_protocol.specs.Boots.{DevicesRead, CustomersRead}
 use Rattle.centre_protocol.specs.Places.{HasPlaces}
 use Rattle.centre_protocol.specs.Table.{centre_table}
-use Rattle.centre_protocol.specs.declared.kept.CentreRows.{CentreRows}
+use Rattle.centre_protocol.specs.declared.rows.CentreRows.{CentreRows}
 use Rattle.row_node.specs.Boots.{Found, HoldNone}
 
 -- each place, counted from 1, by the items

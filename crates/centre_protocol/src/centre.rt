@@ -11,7 +11,7 @@ ghost use Rattle.centre_protocol.specs.Payloads.{IsDamaged};
 ghost use Rattle.centre_protocol.specs.Table.{centre_table};
 ghost use Rattle.row_node.specs.Boots.{AllShowSound};
 
-use crate::kept::CentreRows;
+use crate::rows::CentreRows;
 use bench_base::ledger::Commit;
 use bench_base::refusals::{BootFail, CentreFail};
 use bench_base::sizes::{CENTRE_CELLS, ROW_BYTES};

@@ -10,7 +10,7 @@ use Rattle.host_jobs.specs.Seen.{cell_of, rows_in}
 use Rattle.host_jobs.specs.Soundness.{IsDerived, IsSoundJob, IsJobAt, IsNext}
 use Rattle.host_node.specs.Cells.{rows_kept, row_here}
 use Rattle.host_node.specs.Table.{host_table}
-use Rattle.host_node.specs.declared.kept.HostRows.{HostRows}
+use Rattle.host_node.specs.declared.rows.HostRows.{HostRows}
 
 module _ (m : HostRows) (held : ℕ → Option Held) where
   rows_are : Filled host_table m held → rows_in (seen_of host_table m held) ≡ m.jobs

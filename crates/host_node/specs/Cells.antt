@@ -50,4 +50,4 @@ row_other rows x k differs = get_or-set_other rows (cell_of x) k (Some x) None d
 pub none_hold : (held : ℕ → Option Held) → ((k : ℕ) → held k ≡ None) → HoldRows (row_in no_jobs) held
 none_hold held none k lt =
     subst (λ (o : Option JobRow). IsFilled (IsPayloadOf k) o (held k)) (sym (none_at k))
-        (subst (λ (h : Option Held). IsFilled (IsPayloadOf k) None h) (sym (none k)) tt)
+    (subst (λ (h : Option Held). IsFilled (IsPayloadOf k) None h) (sym (none k)) tt)

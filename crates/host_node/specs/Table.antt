@@ -21,7 +21,7 @@ use Rattle.host_node.specs.Unique.{kept_prop}
 use Rattle.host_node.specs.Payloads.{IsPayloadOf}
 use Rattle.host_node.specs.Cells.{cell_inside, rows_put}
 use Rattle.host_node.specs.Sound.{IsFit}
-use Rattle.host_node.specs.declared.kept.HostRows.{HostRows}
+use Rattle.host_node.specs.declared.rows.HostRows.{HostRows}
 
 pub payload_prop : (k : ℕ) (x : JobRow) (p : List ℕ) → IsProp (IsPayloadOf k x p)
 payload_prop k x p = hlevel props

@@ -10,7 +10,7 @@ ghost use Rattle.host_node.specs.Payloads.{IsDamaged};
 ghost use Rattle.host_node.specs.Table.{host_table};
 ghost use Rattle.row_node.specs.Boots.{AllShowSound};
 
-use crate::kept::{HostRoom, HostRows};
+use crate::rows::{HostRoom, HostRows};
 use bench_base::ledger::Commit;
 use bench_base::refusals::{BootFail, HostFail};
 use host_jobs::{HostAct, JobRows, JobsOf, Kept};

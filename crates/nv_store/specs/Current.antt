@@ -40,7 +40,7 @@ current_below : (n : ℕ) (slots : ℕ → Option Held) (m : ℕ) (c : Held) →
 current_below zero slots m c below is = cc is
 current_below (suc n) slots m c below is =
     newer_below (current n slots) (slots n) m c (λ a here. current_below n slots m a (λ i b lt. below i b (omega arith)) here)
-        (λ b here. below n b (omega arith) here) is
+    (λ b here. below n b (omega arith) here) is
 
 pub current_top : (n : ℕ) (slots : ℕ → Option Held) (place : ℕ) (held : Held) → Top n slots place held → current n slots ≡ Some held
 current_top zero slots place held top = absurd (omega (arith, top.inside))
@@ -52,7 +52,7 @@ current_top (suc n) slots place held top = elim (cases_eq place n) [
   | inr differs ↦
       let inside : place < n = omega (arith, top.inside) in
       ap (λ (o : Option Held). newer o (slots n))
-          (current_top n slots place held (record { inside = inside; here = top.here; below = λ i a lt. top.below i a (omega arith) }))
+      (current_top n slots place held (record { inside = inside; here = top.here; below = λ i a lt. top.below i a (omega arith) }))
       ∙ newer_left held (slots n) (λ b was. top.below n b (omega arith) (λ e. differs (sym e)) was)
 ]
 

@@ -25,7 +25,7 @@ table_shows size n heads payloads image same known = record {
       let head = item_at heads k lt in
       let payload = item_at payloads k (omega (arith, same)) in
       known_shown n (slots_at size (k * (n * (5 + size))) image) head.0.count head.0.place head.0.gates payload.0
-          (known.each k head.0 payload.0 lt head.1 payload.1) ∙ sym (held_at heads payloads k head.0 payload.0 head.1 payload.1);
+      (known.each k head.0 payload.0 lt head.1 payload.1) ∙ sym (held_at heads payloads k head.0 payload.0 head.1 payload.1);
   clear = λ k lt.
       let head = item_at heads k lt in
       let payload = item_at payloads k (omega (arith, same)) in

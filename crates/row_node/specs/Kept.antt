@@ -113,7 +113,7 @@ module _ {R : Type 0} (cells : ℕ) (reads : ℕ → R → List ℕ → Type 0) 
       each = λ k lt.
           subst (λ (o : Option (ℕ × R)). IsHeldAs (reads k) o (cell_shown size 2 image k)) (sym (seen_at k lt))
           (subst (λ (h : Option Held). IsHeldAs (reads k) (with_count (held k) (rows k)) h) (sym (shows.each k lt))
-              (held_as (reads k) (rows k) (held k) (filled k lt)));
+          (held_as (reads k) (rows k) (held k) (filled k lt)));
       clear = shows.clear;
     }
 
@@ -128,7 +128,7 @@ module _ {R : Type 0} (cells : ℕ) (reads : ℕ → R → List ℕ → Type 0) 
           | inl is ↦
               subst (λ (j : ℕ). IsFilled (reads j) (rows' j) (held' j)) (sym is)
               (subst (λ (o : Option R). IsFilled (reads cell) o (held' cell)) (sym here)
-                  (subst (λ (h : Option Held). IsFilled (reads cell) (Some x) h) (sym held_here) row))
+              (subst (λ (h : Option Held). IsFilled (reads cell) (Some x) h) (sym held_here) row))
           | inr differs ↦
               subst (λ (o : Option R). IsFilled (reads k) o (held' k)) (sym (others k differs))
               (subst (λ (h : Option Held). IsFilled (reads k) (rows k) h) (sym (held_others k differs)) (filled k lt))
@@ -140,7 +140,7 @@ module _ {R : Type 0} (cells : ℕ) (reads : ℕ → R → List ℕ → Type 0) 
             (ap (λ (o : Option R). with_count (held' cell) o) here ∙ ap (λ (h : Option Held). with_count h (Some x)) held_here
             ∙ ap (λ (n : ℕ). one_more n) (sym (count_kept (reads cell) (rows cell) (held cell) (filled cell inside))))
             (λ k differs. ap (λ (o : Option R). with_count (held' k) o) (others k differs)
-                ∙ ap (λ (h : Option Held). with_count h (rows k)) (held_others k differs))
+            ∙ ap (λ (h : Option Held). with_count h (rows k)) (held_others k differs))
           where
             one_more : ℕ → Option (ℕ × R)
             one_more n = Some (n + 1, x)
@@ -162,7 +162,7 @@ module _ {R : Type 0} (cells : ℕ) (reads : ℕ → R → List ℕ → Type 0) 
             | inr differs ↦
                 subst (λ (o : Option (ℕ × R)). IsHeldAs (reads k) o (cell_shown size 2 image k)) (sym (put_other seen cell x k differs ∙ seen_at k lt))
                 (subst (λ (h : Option Held). IsHeldAs (reads k) (with_count (held k) (rows k)) h) (sym (between.others k lt differs))
-                    (held_as (reads k) (rows k) (held k) (filled k lt)))
+                (held_as (reads k) (rows k) (held k) (filled k lt)))
           ];
           clear = between.clear;
         })
@@ -172,7 +172,7 @@ module _ {R : Type 0} (cells : ℕ) (reads : ℕ → R → List ℕ → Type 0) 
               → IsHeldAs (reads cell) (row_at (put seen cell x) cell) (cell_shown size 2 image cell)
           put_held image new =
               subst (λ (o : Option (ℕ × R)). IsHeldAs (reads cell) o (cell_shown size 2 image cell))
-                  (sym (put_here seen cell x (omega (arith, inside, seen_long))))
+              (sym (put_here seen cell x (omega (arith, inside, seen_long))))
               (subst (λ (h : Option Held). IsHeldAs (reads cell) (Some (commits_at (row_at seen cell) + 1, x)) h) (sym new)
               (ap (λ (n : ℕ). n + 1) (sym (seen_count cell inside)), row))
 
@@ -187,8 +187,14 @@ sum_listed : {R : Type 0} (s : RowList R) (held : ℕ → Option Held) → ((k :
     → commits_in s ≡ count_sum (length s) held
 sum_listed [] held same = refl
 sum_listed (x ∷ s) held same =
-    omega (arith, sum_by-cons commits_at x s, sum_first (length s) held, same 0 (omega arith), sum_listed s (λ k. held (suc k))
-        (λ k lt. same (suc k) (omega arith)))
+    omega (
+      arith,
+      sum_by-cons commits_at x s,
+      sum_first (length s) held,
+      same 0 (omega arith),
+      sum_listed s (λ k. held (suc k))
+          (λ k lt. same (suc k) (omega arith)),
+    )
 
 pub seen_counts : {R : Type 0} (cells : ℕ) (reads : ℕ → R → List ℕ → Type 0) (rows : ℕ → Option R) (held : ℕ → Option Held)
     → AreFilled cells reads rows held → commits_in (seen_by cells held rows) ≡ count_sum cells held

@@ -3,11 +3,14 @@ use Rattle.std.specs.Prelude.{◌≡◌, ◌↔◌, ◌⊎◌, ◌≤◌, ℕ, L
 use Rattle.bench_base.specs.declared.refusals.StoreFail.{StoreFail}
 use Rattle.bench_base.specs.declared.refusals.StoreFail.TheVariants.{Power, Fault, Worn, Failed}
 use Rattle.bench_base.specs.Causes.{Rose}
+use Rattle.nv_model.specs.declared.nv.Nv.{Ghosts}
 use Rattle.nv_model.specs.Meters.{Meters, WasCut, Uses}
 use Rattle.nv_model.specs.Moments.{Times, Elapses, Stays}
 use Rattle.nv_store.specs.Fills.{Fills, Told}
+use Rattle.nv_store.specs.RoomView.{cells_of, kept_in}
 use Rattle.nv_store.specs.Slot.{Held}
 use Rattle.nv_store.specs.Store.{UsesCommit}
+use Rattle.nv_store.specs.declared.room.Room.{Room}
 use Rattle.node_acts.specs.RowList.{RowList, is_worn, put}
 use Rattle.row_node.specs.Shows.{ShowsRows, row_fill}
 use Rattle.row_store.specs.Seen.{ReadsAs, seen_in}
@@ -19,6 +22,10 @@ pub record RowView : Type 1 where
   pub content : List ℕ
   pub times : Times
   pub meters : Meters
+
+-- the cells that a room keeps, over their storage
+abbrev pub rows_view : {N : Type 0} {L : ℕ} (g : Ghosts N) → N → Room L → RowView
+rows_view g nv room = record { cells = cells_of room; held = kept_in room; content = g.content nv; times = g.times nv; meters = g.meters nv }
 
 -- what their storage tells
 abbrev pub told_in : RowView → Told

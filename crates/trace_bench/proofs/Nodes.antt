@@ -37,6 +37,9 @@ use Rattle.trace_nodes.specs.declared.giving.GaveOut.{GaveOut}
 use Rattle.trace_nodes.specs.declared.printing.PrintOutcome.{PrintOutcome}
 use Rattle.trace_nodes.specs.declared.traced.Traced.{Traced}
 use Rattle.trace_views.specs.Verdicts.{listed}
+use Rattle.trace_views.specs.Verdicts as verdicts
+use Rattle.centre_ledger.specs.Seen as centre_counts
+use Rattle.verifier.specs.Seen as verifier_counts
 use Rattle.trace_device.specs.declared.record.DeviceRecord.{DeviceRecord}
 use Rattle.trace_centre.specs.declared.record.CentreRecord.{CentreRecord}
 use Rattle.trace_host.specs.declared.record.HostRecord.{HostRecord}
@@ -117,7 +120,7 @@ module _ (old : Audit) (e : Event) (prices : KeptPrices) (whole : IsWholeEvent e
       none : TakesNone e (day_in H) left
       none = takes_none e (day_in H) left (not_for_rates old.messages (quote old.rates) e (of_day.Centre asked) is (λ same. cc))
 
-      by : (r : Result (Option (List ℕ)) Reply) → centre_verdicts.MovesBy τ H e line (centre.view_of now) r → IsHeard τ H e left line (record old { centre = now }) (heard_of r)
+      by : (r : Result (Option (List ℕ)) Reply) → verdicts.MovesBy centre_counts.counting centres.centre_kind Centre tt τ H e line (centre.view_of now) r → IsHeard τ H e left line (record old { centre = now }) (heard_of r)
       by (Ok sent) so = (
         so.0,
         lift_told τ H e left line none (sending sent (record old { centre = now })) so.0 so.1.text so.1.whole so.1.moves (sees_centre old H _ sees sent so.1.rests so.1.sends now so.1.here so.1.others),
@@ -151,7 +154,7 @@ module _ (old : Audit) (e : Event) (prices : KeptPrices) (whole : IsWholeEvent e
       none : TakesNone e (day_in H) left
       none = takes_none e (day_in H) left (not_for_rates old.messages (quote old.rates) e (of_day.Verifier asked) is (λ same. cc))
 
-      by : (r : Result (Option (List ℕ)) Reply) → verifier_verdicts.MovesBy τ H e line (verifier.view_of now) r → IsHeard τ H e left line (record old { verifier = now }) (heard_of r)
+      by : (r : Result (Option (List ℕ)) Reply) → verdicts.MovesBy verifier_counts.counting verifiers.verifier_kind Verifier tt τ H e line (verifier.view_of now) r → IsHeard τ H e left line (record old { verifier = now }) (heard_of r)
       by (Ok sent) so = (
         so.0,
         lift_told τ H e left line none (sending sent (record old { verifier = now })) so.0 so.1.text so.1.whole so.1.moves (sees_verifier old H _ sees sent so.1.rests so.1.sends now so.1.here so.1.others),

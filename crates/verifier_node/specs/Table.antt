@@ -19,7 +19,7 @@ use Rattle.verifier_node.specs.Payloads.{rows_held, seen_held}
 use Rattle.verifier_node.specs.Boots.{AreJoined}
 use Rattle.verifier_node.specs.Held.{held_sound}
 use Rattle.verifier_node.specs.Sound.{HasCell}
-use Rattle.verifier_node.specs.declared.kept.VerifierRows.{VerifierRows}
+use Rattle.verifier_node.specs.declared.rows.VerifierRows.{VerifierRows}
 
 pub payload_prop : (k : ℕ) (x : Row) (p : List ℕ) → IsProp (IsPayloadOf k x p)
 payload_prop k (TrustRow d key) p = hlevel props

@@ -6,7 +6,7 @@ ghost use Rattle.verifier.specs.Acts as act_of;
 ghost use Rattle.verifier.specs.Seen.{key_at, spot_in};
 
 use crate::cells::{key_of, scan_of};
-use crate::kept::VerifierRows;
+use crate::rows::VerifierRows;
 use bench_base::numbers::{DayNo, DevNo};
 use bench_base::refusals::ScanRefusal;
 use bench_base::sizes::{BLOCK_PIECES, FIRST_BLOCK};

@@ -10,7 +10,7 @@ ghost use Rattle.verifier_node.specs.Payloads.{IsDamaged};
 ghost use Rattle.verifier_node.specs.Table.{verifier_table};
 ghost use Rattle.row_node.specs.Boots.{AllShowSound};
 
-use crate::kept::VerifierRows;
+use crate::rows::VerifierRows;
 use bench_base::ledger::Commit;
 use bench_base::refusals::{BootFail, ScanFail};
 use bench_base::sizes::{BLOCK_BYTES, VERIFIER_CELLS};

@@ -14,7 +14,8 @@ use Rattle.host_jobs.specs.Records as jobs
 use Rattle.verifier.specs.Records as scans
 use Rattle.bench.specs.Places.{IsDeviceOver}
 use Rattle.bench.proofs.Making.{Moved, moved_start, moved_more, moved_some, moved_done, moved_from, moved_none, pairs_as, pairs_length}
-use Rattle.bench.proofs.Blank.{blank_stand, blank_shown, zeros_show}
+use Rattle.row_node.proofs.Blank.{blank_shown, zeros_show}
+use Rattle.bench.proofs.Blank.{blank_stand}
 use Rattle.bench.proofs.BlankCentre.{centre_nothing, centre_sound}
 use Rattle.host_jobs.proofs.Seeing as host_seeing
 use Rattle.bench.proofs.BlankHost.{host_sound}
