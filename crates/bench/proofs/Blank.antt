@@ -42,7 +42,7 @@ zeros_show size n cells m = record {
   };
 }
 
--- == cells of which nothing is seen ==
+-- == cells that show no rows ==
 
 module _ {R : Type 0} (s : RowList R) (none : (k : ℕ) → row_at s k ≡ None) where
   -- zeros show them

@@ -1,4 +1,4 @@
--- Zeros show cells of which nothing is seen, and no others.
+-- Zeros show cells without rows, and no others.
 use Rattle.std.proofs.Common.{◌≡◌, inl, inr, ℕ, zero, suc, ◌+◌, ◌*◌, ◌-◌, List, length, take, replicate, Option, Some, None, refl, sym, ◌∙◌, ap, subst, arith}
 use Rattle.std.proofs.lemmas.Bool.{cases_lt}
 use Rattle.std.proofs.lemmas.List.{drop-replicate, get_or_past}
@@ -37,7 +37,7 @@ zeros_show size n cells m = record {
   };
 }
 
--- == cells of which nothing is seen ==
+-- == cells that show no rows ==
 
 module _ {R : Type 0} (s : RowList R) (none : (k : ℕ) → row_at s k ≡ None) where
   -- zeros show them
