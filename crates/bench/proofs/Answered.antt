@@ -78,7 +78,7 @@ reads_nothing e reply today kept out not = record {
   later = omega arith;
 }
 
--- a reply that tells of no failure, nor of the printer
+-- a reply that reports neither a failure nor anything of the printer
 pub record Answers (x : Event) (reply : Reply) : Type 0 where
   pub gets : MayGet x reply
   pub says : Adds x reply (in_order [])

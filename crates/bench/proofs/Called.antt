@@ -32,7 +32,7 @@ use Rattle.bench.specs.Calls.{Comes, Told, asked_event}
 use Rattle.bench.proofs.Unprinted.{unprinted, none_printed}
 
 module _ {K S N C R X : Type 0} (n : Ghosts K S N C R) (g : nv.Ghosts S) (f : fuse.Ghosts S) (kind : Kind N n.Seen X) (m : Node) (d : N) (today : ℤ) (event : X → Event) (IsAsked : X → Type 0) (by : X → n.Seen → Act C Reply Said) where
-  -- the acts of the calls that are asked so: how they are told, what they plan, and what they change
+  -- the acts of these calls: how they are reported, what they plan, and what they change
   pub record AreActs : Type 0 where
     pub of : (c : X) → IsCallOf m (event c)
     pub told : (c : X) (s : n.Seen) → IsToldBy m (event c) (by c s)

@@ -1,4 +1,4 @@
--- The acts of a device's calls: what they change, and how they are told.
+-- The acts of a device's calls: what they change, and how they are reported.
 use Rattle.std.proofs.Common.{rules, ◌≡◌, ◌≢◌, ℕ, ℤ, ◌+◌, ◌==◌, ◌&&◌, List, Option, Some, None, Result, Ok, Err, inl, inr, refl, subst, arith}
 use Rattle.std.specs.Prelude.{IfSome}
 use Rattle.bench_base.specs.declared.words.Node.TheVariants.{Device}
@@ -183,7 +183,7 @@ status_free : (today : ℤ) (state : Option State) → CommitsNone (status_act t
 status_free today None = tt
 status_free today (Some s) = tt
 
--- == how they are told ==
+-- == how they are reported ==
 
 pub call_of : (d : ℕ) (call : DeviceCall) → IsCallOf (Device d) (device_call_event d call)
 call_of d (Make c) = record { on = refl; at = refl; no_switch = λ e. cc; no_cut = λ calls keep byte e. cc }

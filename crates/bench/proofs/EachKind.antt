@@ -62,7 +62,7 @@ module _ (n : Nodes) (m : Node) (old new : BenchOf n) (rest : OthersRest m old n
       (λ (differs : j ≢ m). stays P j differs (each j differs))
       (same_or_not j m)
 
--- a bench all whose nodes are as they were
+-- a bench in which every node is as it was
 pub record AllRest {D C H V : Type 0} (old new : Bench D C H V) : Type 0 where
   pub devices : new.devices ≡ old.devices
   pub centre : new.centre ≡ old.centre

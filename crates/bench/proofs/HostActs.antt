@@ -1,4 +1,4 @@
--- The acts of the host's calls: what they change, how they are told, and what is printed of them.
+-- The acts of the host's calls: what they change, how they are reported, and what is printed of them.
 use Rattle.std.proofs.Common.{◌≢◌, ℕ, List, Option, Some, None, refl, inr, ap, subst, arith}
 use Rattle.std.proofs.lemmas.Option.{same_Some}
 use Rattle.bench_base.specs.declared.words.Node.TheVariants.{Host}
@@ -49,7 +49,7 @@ module _ {K S R : Type 0} (n : Ghosts K S (Unit {0}) JobRow R) (rows : Jobs) (so
   call_fits (call.Close c) ranged = commit_says _ _ _ (acts.close_act c.job rows) (by (acts.close_act c.job rows) (sound_acts.closed c.job))
   call_fits (call.Take c) ranged = commit_says _ _ _ (acts.take_act c.bytes rows) (by (acts.take_act c.bytes rows) (sound_acts.taken c.bytes))
 
--- == how they are told ==
+-- == how they are reported ==
 
 pub call_of : (c : HostCall) → IsCallOf Host (host_call_event c)
 call_of (call.Order c) = record { on = refl; at = refl; no_switch = λ e. cc; no_cut = λ calls keep byte e. cc }

@@ -148,7 +148,7 @@ module _ (n : Nodes) (old new : BenchOf n) where
 
 -- == what it does to the bench ==
 
--- a reply of a failure tells of one
+-- a reply of a failure reports a failure
 not_failed : {P : Type 0} (reply failure : Reply) → reply ≡ failure → tells_failure failure ≡ true → tells_failure reply ≡ false → P
 not_failed reply failure is tells fine = absurd (true≢false (sym tells ∙ sym (ap tells_failure is) ∙ fine))
 

@@ -47,7 +47,7 @@ few_notes (z ∷ y ∷ x ∷ w ∷ more) few = absurd (omega (arith, few.0))
 
 -- == by what a reply alone says ==
 
--- beside a commit nothing, a mark, or a mark that goes to the printer is told: none of them is a message
+-- beside a commit, an event reports nothing, a mark, or a mark for the printer: none of them is a message
 none_beside : (made : Option Commit) → notes_in (in_order ([] ++ with_commit made [])) ≡ []
 none_beside None = refl
 none_beside (Some c) = refl

@@ -52,7 +52,7 @@ next_up {S} n (Some s) k v = by (k == n.count v.state + 1)
     by true = refl
     by false = refl
 
--- a reply that tells of no failure leaves no commit open
+-- a reply that reports no failure leaves no commit open
 next_told : {S X : Type 0} (n : Counting S X) (t : ReplyClass) (made : Option (Commit × S)) (v : View S) → is_failure t ≡ false → v.next ≡ None → (view_told n t made v).next ≡ None
 next_told n Did None v fine none = none
 next_told n Did (Some x) v fine none = none

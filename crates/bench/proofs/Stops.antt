@@ -1,4 +1,4 @@
--- Where the process stops within an event, the ledger with the event's commit open, if it has one, is a history.
+-- If the process stops within an event, the ledger with the event's commit open, if it has one, is a history.
 use Rattle.std.proofs.Common.{◌≡◌, inl, inr, ℕ, List, ◌∷◌, Option, Some, None, refl, ap, subst}
 use Rattle.bench_base.specs.declared.ledger.Commit.{Commit}
 use Rattle.bench_base.specs.declared.ledger.Entry.TheVariants as entry

@@ -12,7 +12,7 @@ use Rattle.node_acts.specs.Kinds.{Kind}
 use Rattle.node_storage.specs.declared.node.Node.{Ghosts}
 use Rattle.node_turns.specs.Printing.{Printer, PrinterDid, NodePrints}
 
--- a reply that tells nothing of the printer
+-- a reply that reports nothing of the printer
 pub record IsUnprinted (reply : Reply) : Type 0 where
   pub whole : (job : ℕ) → reply ≢ r.Printed job
   pub cut : (job : ℕ) → reply ≢ r.PrinterFault job

@@ -1,5 +1,5 @@
--- What contracts see of a bench, and when it represents a ledger. A kind of nodes is a field of `Bench`, of `Stores` and of `Nodes`, and a row of
--- `At`, `Of`, `By` and `store_of`; all else is said of a node by its name.
+-- What contracts see of a bench, and when it represents a ledger. A kind of nodes is a field of `Bench`, of `Stores` and of
+-- `Nodes`, and a row of `At`, `Of`, `By` and `store_of`. Everything besides these refers to a node by its name.
 use Rattle.std.specs.Prelude.{◌≡◌, ℕ, ℤ, ◌+◌, zero, suc, false, List, [], Option, Some, None, length, replicate, slice_get}
 use Rattle.bench_base.specs.declared.words.Node.{Node}
 use Rattle.bench_base.specs.declared.words.Node.TheVariants.{Device, Centre, Host, Verifier}
@@ -33,8 +33,8 @@ use Rattle.bench_abstraction.specs.Tariff.{IsOfTexts}
 use Rattle.bench.specs.declared.stores.Stores.{Stores}
 use Rattle.bench.specs.declared.benches.BenchOver.{BenchOver}
 
--- the day, the messages of the run, of which the first was sent first, the rates that were read last, the devices, of which number i is
--- device i + 1, and the nodes of which there is one
+-- the day, the messages of the run in the order in which they were sent, the rates that were read last, the devices (number
+-- i is device i + 1), and the nodes that occur once
 pub record Bench (D C H V : Type 0) : Type 0 where
   pub day : Option ℤ
   pub messages : List (List ℕ)
@@ -158,8 +158,8 @@ BenchOf n = Bench n.Devices n.Centres n.Hosts n.Verifiers
 
 -- == what holds of a node, whatever its kind ==
 
--- one kind of nodes, over storages S: the types of its nodes, of their names, of what a commit changes, of the memory that they run in and of
--- their calls; what they keep, and what the ledger shows of it
+-- One kind of nodes, over storages S: the types of its nodes, of their names, of what a commit changes, of the memory that
+-- they run in and of their calls. It also has what they keep, and what the ledger shows of it.
 pub record OneKind (S : Type 0) : Type 1 where
   pub Own : Type 0
   pub Name : Type 0
@@ -201,14 +201,14 @@ module _ (n : Nodes) where
   By P Host = P host Host tt
   By P Verifier = P verifier Verifier tt
 
-  -- as it stands on the bench
+  -- P holds of this node as it is on the bench
   abbrev pub Of : OfState n.Storage → BenchOf n → Node → Type 0
   Of P bench (Device d) = (i : ℕ) (s : n.Devices) → d ≡ i + 1 → slice_get bench.devices i ≡ Some s → P devices (Device d) d s
   Of P bench Centre = P centre Centre tt bench.centre
   Of P bench Host = P host Host tt bench.host
   Of P bench Verifier = P verifier Verifier tt bench.verifier
 
-  -- as it stood on the one bench, and as it stands on the other
+  -- P holds of this node as it was on the old bench and as it is on the new one
   abbrev pub At : OfChange n.Storage → BenchOf n → BenchOf n → Node → Type 0
   At P old new (Device d) =
       (i : ℕ) (s t : n.Devices) → d ≡ i + 1 → slice_get old.devices i ≡ Some s → slice_get new.devices i ≡ Some t → P devices (Device d) d s t
@@ -216,12 +216,12 @@ module _ (n : Nodes) where
   At P old new Host = P host Host tt old.host new.host
   At P old new Verifier = P verifier Verifier tt old.verifier new.verifier
 
-  -- the bench represents the ledger: so does each node of it
+  -- the bench represents the ledger: each of its nodes represents it
   pub record Stands (bench : BenchOf n) (L : Ledger) : Type 0 where
     pub day : HasDay bench.day bench.messages bench.rates L
     pub nodes : (m : Node) → Of (λ k i d s. node.Stands k.ghosts n.storage d (view_in i (k.kind.seen d) L) s) bench m
 
-  -- a storage represents the ledger, whose node is off
+  -- a storage represents the ledger, and its node is off
   abbrev pub StoreStandsOff : Ledger → n.Inner → Node → Type 0
   StoreStandsOff L store m = (is_on m L ≡ false) × By (λ k i d. StoreStands k.ghosts n.inner d (view_in i (k.kind.seen d) L) store) m
 
@@ -230,6 +230,7 @@ module _ (n : Nodes) where
     pub day : HasDay None [] None L
     pub nodes : (m : Node) (store : n.Inner) → store_of stores m ≡ Some store → StoreStandsOff L store m
 
-  -- P holds of each history for which the bench stands and at which the event is unforged, by a tariff of texts, where its storages tell
+  -- P holds of each history that the bench represents and in which the event is unforged, by a tariff of texts, if the
+  -- storages expose their contents
   abbrev pub ForEach : BenchOf n → Event → (Tariff → Ledger → Type 0) → Type 0
   ForEach bench e P = (τ : Tariff) (L : Ledger) → IsOfTexts τ → History τ editions L → Unforged e L → Stands bench L → n.storage.tells → P τ L

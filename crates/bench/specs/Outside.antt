@@ -38,7 +38,7 @@ outside s rates p printer = beside (feed_of s rates) (printer_of p printer)
 
 -- == what is read of the rates ==
 
--- what is told of a text that was read, and the rates that are kept then
+-- what is reported of a text that was read, and the rates that are kept then
 abbrev pub rates_turn : List ℕ → Result RateTable RatesFail → Turn
 rates_turn text (Ok x) = turn_of (r.Rates (length x.classes) x.zones) (entry.Rates text ∷ [])
 rates_turn text (Err (fail.Length n)) = turn_of r.RatesLength []

@@ -18,13 +18,13 @@ use Rattle.verifier_node.specs.NodeView.{VerifierNode}
 use Rattle.bench.specs.Benches.{Bench, Nodes, BenchOf}
 use Rattle.bench.specs.Benches as benches
 
--- two lists, of which each two elements at one place are related
+-- two lists of one length, with each two elements at the same place related
 abbrev pub Pairs : {X Y : Type 0} → (X → Y → Type 0) → List X → List Y → Type 0
 Pairs P [] [] = Unit {0}
 Pairs P (x ∷ xs) (y ∷ ys) = P x y × Pairs P xs ys
 Pairs P _ _ = ⊥
 
--- a node that is off or on, over the storage with a fuse that it has: this one is off, over this storage, whose fuse is not armed
+-- a node over a storage with a fuse is off; the storage within is this one, and the fuse is not armed
 pub record IsOver {N : Type 0} {h : nv.Ghosts N} (store : N) (is_on : Bool) (storage : Fused N h) : Type 0 where
   pub off : is_on ≡ false
   pub within : inside storage ≡ store

@@ -61,7 +61,7 @@ stepped n m seen H call_plan call_commit Off calls x may = turns_off n m seen H 
 stepped n m seen H call_plan call_commit (Cut k keep byte) calls x may = cuts n m seen H x may
 stepped n m seen H call_plan call_commit (Call c) calls x may = calls c refl x may
 
--- what is told by the plan begins no run, and with the commit it is few
+-- the entries of the plan begin no run, and with the commit there are few
 pub record IsTame (p : Plan) : Type 0 where
   pub none : NoBegin p.after
   pub few : IsFew (p.after ++ with_commit p.commit [])
@@ -106,7 +106,7 @@ plan_tame n m call_plan v calls Off = by v.on
 plan_tame n m call_plan v calls (Cut k keep byte) = quiet_tame (r.CutSet m)
 plan_tame n m call_plan v calls (Call c) = calls c
 
--- so is the plan of a call
+-- the plan of a call is tame
 pub said_tame : {S X : Type 0} (n : Counting S X) (m : Node) (v : View S) (act : Act X Reply Said) → IsTame (seen_plan n m v act)
 said_tame {X = X} n m v act = by_on v.on
   where

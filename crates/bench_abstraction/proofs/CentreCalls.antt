@@ -71,7 +71,7 @@ use Rattle.bench_abstraction.proofs.Sent.{sent_many, sent_at}
 use Rattle.bench_abstraction.proofs.Shown.{centre_view}
 use Rattle.bench_abstraction.proofs.Steps.{IsQuiet, IsSaid, IsQuietAct, IsRight, quiet_says}
 
--- == whose the commits are, and where they lie ==
+-- == the node and the cell of each commit ==
 
 -- the commit of the act, if it makes one, is the centre's, and lies in the cell of its row
 abbrev IsPlacedAct : {A : Type 0} → CentreAct A → Type 0
@@ -202,7 +202,7 @@ module _ (H : Ledger) (known : IsKnown (seen_in (counted H))) (are : AreBooksOf 
   plans : in_books b ≡ in_commits C
   plans = planned b C known.sound are
 
-  -- an act of these rows whose commit, if it makes one, is the centre's, and leads to the rows after it
+  -- an act of these rows: its commit, if it makes one, is the centre's, and leads to the rows after it
   abbrev IsGood : {A : Type 0} → CentreAct A → Type 0
   IsGood act = IsPlacedAct act × FollowsCommits b C act
 

@@ -108,7 +108,7 @@ module _ (pool : List (List ℕ)) (quote : Quote) where
     pub deliver : (k : ℕ) → slice_get pool k ≡ None → P (ev.Deliver k) (route.OfDay (of_day.NoMessage k))
     pub scan : (n k : ℕ) → slice_get pool k ≡ None → P (ev.ScanMsg n k) (route.OfDay (of_day.NoMessage k))
 
-  -- P of each event, by whom it is for
+  -- P of each event, by the node that it is for
   pub record Each (R : Event → Routed → Type 0) (D : Event → ℕ → Asked DeviceCall → Type 0) (C : Event → Asked CentreCall → Type 0) (H : Event → Asked HostCall → Type 0) (V : Event → Asked VerifierCall → Type 0) : Type 0 where
     pub quiet : EachQuiet R
     pub devices : EachAsked D
@@ -116,7 +116,7 @@ module _ (pool : List (List ℕ)) (quote : Quote) where
     pub host : EachOfHost H
     pub verifier : EachOfVerifier V
 
-  -- what is routed, by whom it is for
+  -- what is routed, by the node that it is for
   abbrev ByNode : (Event → Routed → Type 0) → (Event → ℕ → Asked DeviceCall → Type 0) → (Event → Asked CentreCall → Type 0) → (Event → Asked HostCall → Type 0) → (Event → Asked VerifierCall → Type 0) → Event → Routed → Type 0
   ByNode R D C H V e (route.Day t) = R e (route.Day t)
   ByNode R D C H V e route.End = R e route.End

@@ -1,4 +1,4 @@
--- That an event of a node does what the node alone would do follows from its plan, its steps and what it leaves of the others.
+-- An event of a node does what the node alone would do, by its plan, its steps and what it leaves of the others.
 use Rattle.std.proofs.Common.{◌≡◌, ℤ, [], ◌∷◌, ◌++◌, Option, Some, true, sym, subst, option_map, ◌∙◌, ap}
 use Rattle.bench_base.specs.declared.words.Node.{Node}
 use Rattle.bench_base.specs.declared.words.Node.TheVariants.{Device, Centre, Host, Verifier}

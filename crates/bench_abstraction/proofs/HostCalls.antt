@@ -57,7 +57,7 @@ use Rattle.bench_abstraction.proofs.Sent.{sent_many, sent_at}
 use Rattle.bench_abstraction.proofs.Shown.{host_view}
 use Rattle.bench_abstraction.proofs.Steps.{IsQuiet, IsQuietAct, IsRight, quiet_says}
 
--- == whose the commits are, and where they lie ==
+-- == the node and the cell of each commit ==
 
 -- the commit of the act, if it makes one, is the host's, and lies in the cell of its row
 abbrev IsPlacedAct : {A : Type 0} → HostAct A → Type 0
@@ -119,7 +119,7 @@ module _ (H : Ledger) (known : IsKnown (seen_after (counted H))) (turn : InTurn 
   plans : law.PlannedActs rows C
   plans = planned rows C known.sound are
 
-  -- an act of these rows whose commit, if it makes one, is the host's, and leads to the rows after it
+  -- an act of these rows: its commit, if it makes one, is the host's, and leads to the rows after it
   abbrev IsGood : {A : Type 0} → HostAct A → Type 0
   IsGood act = IsPlacedAct act × FollowsCommits rows C act
 

@@ -63,7 +63,7 @@ use Rattle.bench_abstraction.proofs.Events.{each_asked, same_taker}
 use Rattle.bench_abstraction.proofs.Sent.{sent_many, sent_at}
 use Rattle.bench_abstraction.proofs.Shown.{device_view}
 
--- == whose the commit is ==
+-- == the node of each commit ==
 
 module _ (d : ℕ) where
   make_own : (key : List ℕ) (s : Option State) → IsOfNode (Device d) (make_act d key s)

@@ -25,7 +25,7 @@ use Rattle.bench_abstraction.specs.Messages.{sent_in}
 use Rattle.bench_abstraction.specs.Routing.{routed}
 use Rattle.bench_abstraction.specs.declared.routing.Routed.{Routed}
 
--- == what is told of a text ==
+-- == what is reported of a text ==
 
 -- what it is reported as, as a plan
 abbrev pub plan_of : List ℕ → Result RateTable RatesFail → Plan

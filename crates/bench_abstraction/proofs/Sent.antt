@@ -30,7 +30,7 @@ get_before [] x (suc k) differs = refl
 get_before (y ∷ xs) x zero differs = refl
 get_before (y ∷ xs) x (suc k) differs = get_before xs x k (λ is. differs (omega (arith, is)))
 
--- each stands at its number
+-- each message is at its number
 pub sent_at : (H : Ledger) (k : ℕ) → slice_get (sent_in H) k ≡ message k H
 sent_at [] k = refl
 sent_at (entry.Sent bytes ∷ H) k = elim (cases_eq k (messages H)) [

@@ -78,7 +78,7 @@ module _ (H : Ledger) (recorded : IsRecorded (counted H)) (known : IsKnown (seen
   plans : PlannedActs C
   plans = planned C recorded
 
-  -- an act of these rows whose commit, if it makes one, is the verifier's, and leads to the rows after it
+  -- an act of these rows: its commit, if it makes one, is the verifier's, and leads to the rows after it
   abbrev IsGood : {A : Type 0} → ScanAct A → Type 0
   IsGood act = LeavesSound s act × FollowsCommits C act
 

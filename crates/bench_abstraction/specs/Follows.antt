@@ -52,8 +52,9 @@ module _ {N S X C : Type 0} (n : Counting S X) (kind : Kind N S C) (m : Node) (d
   commit_by today asked H = node_commit (kind.commit d today (view_by H)) asked
 
   module _ {D E F G : Type 0} (kinds : Kinds D E F G) (τ : Tariff) (H : Ledger) (e : Event) (today : ℤ) (asked : Asked C) where
-    -- By this reply: it is a move of the ledger; what is seen of the node afterwards; of each other node the same is seen as before,
-    -- and so of all else; and the messages of the run are those before, and what the event sent.
+    -- What follows from this reply. It is a move of the ledger. The record says what is seen of the node afterwards; each
+    -- other node, the day and the rates are seen as before. The messages of the run are those before, and then what the
+    -- event sent.
     pub record Replied (reply : Reply) : Type 0 where
       pub moves : Moves τ todays_rules H e [] reply
       pub here : view_by (entries τ todays_rules H e [] reply) ≡ view_after n reply (commit_by today asked H) (view_by H)
@@ -70,8 +71,8 @@ module _ {N S X C : Type 0} (n : Counting S X) (kind : Kind N S C) (m : Node) (d
       pub own : (x : Commit × S) → commit_by today asked H ≡ Some x → (node_of x.0 ≡ m) × (is_on m H ≡ true)
       pub replied : (reply : Reply) → MayReply n m (view_by H) (plan_by today asked H) reply → Replied reply
 
-  -- it follows for each event of the node, on a day, at each history in which its record is one that storage can show, and is one
-  -- after the commit too
+  -- it follows for each event of the node, on a day, at each history, if storage can show the node's record there and after
+  -- the commit
   abbrev pub FollowsAlways : {D E F G : Type 0} → Kinds D E F G → (Asked C → OfDay) → (Asked C → Type 0) → (S → Type 0) → Type 0
   FollowsAlways kinds work_of IsWhole Fits = (τ : Tariff) (H : Ledger) (e : Event) (today : ℤ) (asked : Asked C) → History τ editions H → Unforged e H
       → day_in H ≡ Some today

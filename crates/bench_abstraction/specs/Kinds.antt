@@ -17,7 +17,7 @@ use Rattle.bench_abstraction.specs.Host.{host_kind}
 use Rattle.bench_abstraction.specs.Verifier.{verifier_kind}
 use Rattle.bench_abstraction.specs.Comparing.{compare}
 
--- whose records are D, C, H and V
+-- the four kinds of nodes, with records D, C, H and V, and what compares two of them
 pub record Kinds (D C H V : Type 0) : Type 0 where
   pub devices : Kind ℕ D DeviceCall
   pub centre : Kind (Unit {0}) C CentreCall

@@ -16,7 +16,7 @@ SendsNone [] = Unit {0}
 SendsNone (Sent bytes ∷ T) = ⊥
 SendsNone (_ ∷ T) = SendsNone T
 
--- what one event adds, the newest first: at most three entries, of which only the newest is a message
+-- what one event adds, the newest first: at most three entries, and only the newest may be a message
 abbrev pub IsFew : List Entry → Type 0
 IsFew [] = Unit {0}
 IsFew (x ∷ T) = (length T ≤ 2) × SendsNone T

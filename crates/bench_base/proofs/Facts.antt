@@ -98,7 +98,7 @@ first_of_none (Some x) b h = absurd (h x refl)
 
 -- == bytes ==
 
--- a part, and what stands behind it
+-- a part, and what follows it
 pub behind : (at n : ℕ) (bytes : List ℕ) → take n (drop at bytes) ++ drop (at + n) bytes ≡ drop at bytes
 behind at n bytes = ap (λ r. take n (drop at bytes) ++ r) (sym (drop-drop n at bytes)) ∙ take-append-drop n (drop at bytes)
 

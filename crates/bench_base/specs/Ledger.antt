@@ -83,7 +83,8 @@ torn_of n (Torn m c ∷ H) = if same_node m n then Some c else torn_of n H
 torn_of n (Up m k ∷ H) = if same_node m n then None else torn_of n H
 torn_of n (_ ∷ H) = torn_of n H
 
--- the commits that count behind an Up of node n that shows k: the open commit counts if and only if k is one more than the commits of n before
+-- the commits that count after an Up of node n that shows k: the open commit counts if and only if k is one more than the
+-- commits of n before
 abbrev pub at_up : Option Commit → Node → ℕ → List Commit → List Commit
 at_up None n k C = C
 at_up (Some c) n k C = if k == count_of n C + 1 then c ∷ C else C

@@ -1,4 +1,4 @@
--- The ranges of numbers: of the small types, of the parts of a commit, and of what an event asks or brings.
+-- The ranges of numbers: of the small types, of the parts of a commit, and of what an event asks or contains.
 use Rattle.std.specs.Prelude.{◌≡◌, ℕ, ℤ, pos, ◌<◌, ◌≤◌, ◌≤ℤ◌, ◌^◌, List, length}
 use Rattle.bench_base.specs.declared.words.Kind.{Kind}
 use Rattle.bench_base.specs.declared.words.Kind.TheVariants.{Enrol, Reset}

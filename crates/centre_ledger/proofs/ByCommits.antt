@@ -63,7 +63,7 @@ enrolled_is (Some w) false = refl
 
 -- == a ruling ==
 
--- a device that was never enrolled is none that was withdrawn; but it hasn't left any the less
+-- a device that was never enrolled was not withdrawn, but it counts as one that has left all the same
 left_is : (w : Option ℕ) (gone : Bool) → has_left w (is_withdrawn (enrolment_of w gone)) ≡ has_left w gone
 left_is None gone = refl
 left_is (Some w) true = refl
@@ -123,7 +123,7 @@ module _ (C : List Commit) (order : InOrder C) (q : Request) (x : ℕ × List �
   pub verdict_is : verdict_in (in_commits C) r q ≡ (verdict C q).0
   verdict_is = ap (λ (y : Verdict × ℕ). y.0) verdict_so
 
-  -- and so is the Reply that is sent
+  -- and the Reply that is sent is the one that the ledger plans
   pub reply_is : (bytes : List ℕ) → registered q.device C ≡ Some x → (ruled_in (in_commits C) r q bytes).reply ≡ reply_note C q
   unfolding reply_to
   reply_is bytes known = λ i. spell (m.Reply (same i)) (key_in (sym known i))

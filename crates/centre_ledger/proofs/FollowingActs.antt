@@ -1,4 +1,4 @@
--- Where the rows are those of the commits, so they are after the commit of an act.
+-- If the rows are those of the commits, they are so after the commit of an act too.
 use Rattle.std.proofs.Common.{◌≡◌, ℕ, ◌+◌, Bool, true, false, List, [], ◌∷◌, Option, Some, None, Ok, Err, cond, refl, sym, ap, subst, ◌∙◌, arith}
 use Rattle.std.specs.Prelude.{Result, ◌==◌}
 use Rattle.std.proofs.lemmas.Bool.{ne_eqb}

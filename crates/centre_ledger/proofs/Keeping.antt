@@ -32,7 +32,7 @@ use Rattle.centre_ledger.specs.Soundness.{IsSoundDevice, IsPayer, IsVerdict}
 use Rattle.centre_ledger.proofs.Passed.{granted}
 use Rattle.centre_ledger.specs.Rows.{customer_of, is_withdrawn, withdrawn_of, enrolled_in, account, amount_shown, deadline_after, reply_by, enrolment_after, NamesCustomer, ruled_row}
 
--- a refusal for want of funds shows a balance below the amount
+-- a verdict of `NoFunds` shows a balance below the amount
 short_of : (a : Account) (q : Request) → (verdict_by a q).0 ≡ NoFunds → a.balance < q.amount
 unfolding verdict_by
 short_of a q = first_that (λ (x : Verdict × ℕ). x.0 ≡ NoFunds → a.balance < q.amount) (verdict_rows a q) (Granted, q.amount)
@@ -185,7 +185,7 @@ sums_after r v balance q sound (o, paid, says) =
 
 -- == the enrolment ==
 
--- a device of which nothing is left was enrolled
+-- a device that has not left was enrolled
 left_of : (e : Enrolment) → has_left (customer_of e) (is_withdrawn e) ≡ false → customer_of e ≡ None → ⊥
 left_of Registered h none = true≢false h
 left_of (Enrolled w) h none = none-some _ (sym none)

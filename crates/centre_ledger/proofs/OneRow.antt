@@ -28,7 +28,7 @@ spells_old r sound fits old = record { version = (omega arith, omega arith); sou
 pub spells_new : (r : DeviceRow) → IsSoundDevice r → DeviceFits 2 r → Spells 2 r
 spells_new r sound fits = record { version = (omega arith, omega arith); sound = sound; fits = fits; old = λ e. absurd (omega (arith, e)) }
 
--- the byte of the state tells the version
+-- the byte of the state shows the version
 pub byte_old : (r : DeviceRow) (bytes : List ℕ) → Spells 1 r → device_spelled 1 r ≡ bytes → get_or bytes 4 0 < 16
 byte_old r bytes g e = omega (arith, state_is 1 r bytes (parts_of 1 r bytes g e).head, state_low r.enrolment)
 
@@ -65,7 +65,7 @@ one_device_row payload r s a b = go a.reads b.reads
 pub written_device : (r : DeviceRow) → IsSoundDevice r → DeviceFits 2 r → DeviceReadsAs (device_bytes r) r
 written_device r sound fits = record { sound = sound; fits = fits; reads = inl refl }
 
--- a low byte stands in no payload of version 2, and a high one in none of version 1
+-- the byte of the state is not low in a payload of version 2, and not high in one of version 1
 pub not_second : (payload : List ℕ) (r : DeviceRow) → get_or payload 4 0 < 16 → DeviceReadsAs payload r → (IsOld r → device_spelled 1 r ≡ payload → ⊥) → ⊥
 not_second payload r low h none = go h.reads
   where

@@ -43,7 +43,7 @@ sums_values : (v : ℕ) (r : DeviceRow) (front rest : List ℕ) → DeviceFits v
 unfolding sums_part
 sums_values v r front rest f l = values_row (sums_table v) (sums r) front rest 45 l f.sums
 
--- the byte of the state tells the state
+-- the byte of the state shows the state
 pub state_again : (v s : ℕ) → state_from v (state_byte v s) ≡ s
 state_again v s = go (v == 1)
   where
@@ -115,7 +115,7 @@ assembled v r bytes l h p =
     let from_key = ap₂ (λ x y. x ++ y) b from_sums ∙ behind 13 32 bytes in
     ap₂ (λ x y. x ++ y) a from_key ∙ behind 0 13 bytes
 
--- the numbers fit the fields of version 2, whatever version they stand in
+-- the numbers fit the fields of version 2, whatever version they were read from
 pub fits_made : (v : ℕ) (r : DeviceRow) (bytes : List ℕ) → IsVersion v → length bytes ≡ 192 → IsBytes bytes → IsSoundDevice r → Parts v r bytes → DeviceFits 2 r
 fits_made v r bytes h l bs sound p =
     let front : Fit head_table (head v r) = subst (Fit head_table) p.head (values_fit head_table 0 bytes bs) in
@@ -276,7 +276,7 @@ pub same_row : (r s : DeviceRow) → bare r ≡ bare s → r.request ≡ s.reque
 unfolding with_messages
 same_row r s e q p = ap (λ x. with_messages x r.request r.reply) e ∙ ap₂ (λ a b. with_messages (bare s) a b) q p
 
--- fields and parts tell the messages, hence the row
+-- fields and parts determine the messages, hence the row
 pub row_of_parts : (v : ℕ) (r s : DeviceRow) (request reply : List ℕ) → IsVersion v → IsSoundDevice r → IsSoundDevice s → bare r ≡ bare s
     → length request ≡ request_size v → length reply ≡ reply_size v
     → message_part v (request_size v) r.request ≡ request → message_part v (request_size v) s.request ≡ request

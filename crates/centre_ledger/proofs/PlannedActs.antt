@@ -1,4 +1,4 @@
--- What sound books tell is what their commits tell.
+-- Sound books show what their commits show.
 use Rattle.std.proofs.Common.{◌≡◌, ℕ, List, Option, Some, None, option_map, refl, sym, ap, subst, ◌∙◌}
 use Rattle.bench_base.specs.declared.ledger.Commit.{Commit}
 use Rattle.centre_ledger.specs.declared.rows.DeviceRow.{DeviceRow}

@@ -92,7 +92,7 @@ module _ (v : ℕ) (bytes : List ℕ) (r : DeviceRow) (spells : Spells v r) (e :
   pub end_is : drop (end_place v) bytes ≡ end_part v
   end_is = parts_are.end
 
-  -- fields and messages stand in it
+  -- the fields and the messages are in the payload
   pub not_missed : (row : DeviceRow) → row ≡ bare_at v bytes
       → ((x : DeviceRow) → IsSoundDevice x → bare x ≡ row
       → KeepMessages v (take (request_size v) (drop (request_place v) bytes)) (take (reply_size v) (drop (reply_place v) bytes)) x → ⊥) → ⊥

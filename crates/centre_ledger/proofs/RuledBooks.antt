@@ -1,4 +1,4 @@
--- The row with a ruling is one whose customer can pay.
+-- The row with a ruling has a customer who can pay.
 use Rattle.std.proofs.Common.{◌≡◌, ℕ, ◌+◌, ◌≤◌, Bool, true, false, List, Option, Some, None, cond, refl, sym, ap, subst, ⊎_elim, true≢false, arith}
 use Rattle.std.specs.Prelude.{◌&&◌, not, IsSome}
 use Rattle.std.proofs.lemmas.Bool.{cases_Bool, eqb-true, and_parts}

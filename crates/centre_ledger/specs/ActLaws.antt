@@ -58,6 +58,7 @@ pub record ActsFollow : Type 0 where
 
 -- == what is looked up ==
 
--- what these books tell is what the commits tell; so each act by these books is the one by the commits, off which the ledger's plan is read
+-- What these books show is what the commits show. So each act by these books is the one by the commits, and the ledger's
+-- plan is read off that one.
 abbrev pub ActsArePlanned : Type 0
 ActsArePlanned = (b : Books) (C : List Commit) → AreSound b → AreBooksOf b C → in_books b ≡ in_commits C

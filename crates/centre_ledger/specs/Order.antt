@@ -1,4 +1,4 @@
--- The order in which the centre's commits come, the newest first.
+-- The order of the centre's commits, the newest first.
 use Rattle.std.specs.Prelude.{◌≡◌, ◌+◌, ◌<◌, ◌≤◌, true, false, List, [], ◌∷◌, None, IsSome}
 use Rattle.bench_base.specs.declared.ledger.Commit.{Commit}
 use Rattle.bench_base.specs.declared.ledger.Commit.TheVariants.{Registered, Opened, Deposited, Flagged, Ruled, Settled}

@@ -93,7 +93,8 @@ pub record IsSpelling (version : ℕ) (payload : List ℕ) (r : DeviceRow) : Typ
 
 -- == the messages ==
 
--- how many of its bytes are the Request, of which the first tells its version: without the code, in version 2 of the row
+-- How many of its bytes are the Request: in version 2 of the row the Request is without its code. The first of the bytes is
+-- the Request's version.
 abbrev pub request_front : ℕ → ℕ → ℕ
 request_front version first = if version == 1 then 71 else if first == 1 then 39 else 55
 

@@ -1,4 +1,4 @@
--- How rows are told by their payloads.
+-- How rows are distinguished by their payloads.
 use Rattle.std.specs.Prelude.{◌≡◌, ℕ, List, length}
 use Rattle.bench_base.specs.Table.{Fit}
 use Rattle.centre_ledger.specs.declared.rows.DeviceRow.{DeviceRow}

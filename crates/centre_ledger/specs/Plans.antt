@@ -19,7 +19,7 @@ use Rattle.centre_ledger.specs.Acts.{CentreAct, LookUps, register_by, open_by, f
 use Rattle.centre_ledger.specs.Records.{device_row, customer_row}
 use Rattle.centre_ledger.specs.Standing.{flight_shown}
 
--- == what is told ==
+-- == what is reported ==
 
 -- an act, by how it says what it answers
 abbrev pub says : {A : Type 0} → (A → Said) → CentreAct A → Act Row Reply Said

@@ -22,8 +22,8 @@ pub struct CentreRows {
 /// Memory for the 72 cells of the centre, and for its rows.
 pub type CentreRoom = RowRoom<CentreRows>;
 
-/// The centre over storage of 28,368 bytes: a cell of two slots for each device and each customer, whose payload is its
-/// row. While it is off, what it knew of its storage counts for nothing.
+/// The centre over storage of 28,368 bytes: a cell of two slots for each device and each customer, with its row as payload.
+/// While it is off, what it knew of its storage counts for nothing.
 pub type CentreNode<N> = RowNode<N, CentreRows>;
 
 impl CentreRows {

@@ -64,7 +64,7 @@ read_mark bytes =
     else Err (Version (get_or bytes 0 0)))
     else Err (Length (length bytes))
 
--- the bytes read as this mark, with this code behind it
+-- the bytes read as this mark, with this code after it
 pub record ReadsAs (bytes : List ℕ) (mark : Mark) (code : List ℕ) : Type 0 where
   pub whole : IsWhole mark
   pub spelled : bytes ≡ body mark ++ code

@@ -1,4 +1,4 @@
--- What holds of the commit of an act holds of it however the act is told.
+-- What holds of an act's commit holds of it however the act is reported.
 use Rattle.bench_base.specs.declared.ledger.Commit.{Commit}
 use Rattle.bench_base.specs.declared.events.Reply.{Reply}
 use Rattle.node_acts.specs.declared.act.Act.{Act}

@@ -18,7 +18,7 @@ use Rattle.node_acts.specs.Plans.{with_torn, after, after_told, Fails, IsOfNode,
 use Rattle.node_acts.specs.Said.{tells, IsPlain, seen_plan, said_reply, said_entries}
 
 module _ {S X : Type 0} (n : Counting S X) (m : Node) where
-  -- what was told of a call with this act, this plan and this commit
+  -- what was reported of a call with this act, this plan and this commit
   pub record Tells (p : Plan) (act : Act X Reply Said) (made : Option (Commit × S)) (result : Outcome Reply Said) : Type 0 where
     pub may : (said_reply m result ≡ p.reply) ⊎ Fails p (said_reply m result)
     pub entries_are : said_entries m act result ≡ after p (said_reply m result) []

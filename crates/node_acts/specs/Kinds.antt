@@ -11,7 +11,7 @@ use Rattle.node_acts.specs.Plans.{when_on, on_plan}
 use Rattle.node_acts.specs.declared.asked.Asked.{Asked}
 use Rattle.node_acts.specs.declared.asked.Asked.TheVariants.{On, Off, Cut, Call}
 
--- what the bench sees of node m, whose record after some commits is as seen says
+-- what the bench sees of node m; its record after some commits is as `seen` says
 abbrev pub view_in : {S : Type 0} → Node → (List Commit → S) → Ledger → View S
 view_in m seen H = record {
   state = seen (counted H);
@@ -19,8 +19,8 @@ view_in m seen H = record {
   on = is_on m H;
 }
 
--- What a kind of nodes brings, whose names are N, whose records S, and whose calls C: what is seen of each after some commits,
--- and the plan and the commit of each call on a day.
+-- A kind of nodes with names N, records S and calls C: what is seen of each after some commits, and the plan and the commit
+-- of each call on a day.
 pub record Kind (N S C : Type 0) : Type 0 where
   pub seen : N → List Commit → S
   pub plan : N → ℤ → View S → C → Plan

@@ -54,7 +54,7 @@ after_told p RatesFailed H = H
 abbrev pub after : Plan → Reply → Ledger → Ledger
 after p reply H = after_told p (class_of reply) H
 
--- == what else may come ==
+-- == which failures may replace the plan's reply ==
 
 -- the node boots, or commits
 abbrev pub MayFail : Plan → Node → Type 0

@@ -31,7 +31,7 @@ gives reply x = record { reply = reply; given = Some x; sent = None }
 abbrev pub sends : Reply → List ℕ → Said
 sends reply note = record { reply = reply; given = None; sent = Some note }
 
--- == what is told after the commit, the newest first: a mark leaves the node before the message that carries it is sent ==
+-- == what is reported after the commit, the newest first: a mark leaves the node before the message that carries it is sent ==
 
 -- the entry of what was given out
 abbrev pub with_given : Option GivenOut → List Entry
@@ -81,7 +81,7 @@ said_entries m act outcome = call_entries m tells act outcome
 abbrev pub planned_commit : {X : Type 0} → Act X Reply Said → Option Commit
 planned_commit act = (said_plan act).commit
 
--- the kind of nodes whose calls have these acts, by the record of the node
+-- the kind of nodes with these acts for its calls, by the record of the node
 abbrev pub kind_by : {N S X C : Type 0} → Counting S X → (N → Node) → (N → List Commit → S) → (N → ℤ → C → S → Act X Reply Said) → Kind N S C
 kind_by n node seen act = record {
   seen = seen;

@@ -25,7 +25,7 @@ pub none_torn : (o : Option Commit) → is_some o ≡ false → o ≡ None
 none_torn None is = refl
 none_torn (Some c) is = cc
 
--- by whether the node is on behind a commit that was not made
+-- by whether the node is on after a commit that was not made
 pub only_worn : (fail : StoreFail) → true ≡ leaves_running (Err fail) → fail ≢ Failed → fail ≡ Worn
 only_worn Power on not_failed = cc
 only_worn Fault on not_failed = cc

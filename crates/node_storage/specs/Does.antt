@@ -55,7 +55,7 @@ pub record Stores {S : Type 0} (g : Ghosts S) (IsOld IsNew : List ℕ → Type 0
   pub spent : Spends g 6 before now end
   pub size : g.size now ≡ g.size before
 
--- by bytes: where it began to write it fills the slot whose turn it is, and where it was made it used four calls or six
+-- by bytes: if it began to write, it fills the next slot of the cell, and if it was made, it used four calls or six
 pub record Writes {S : Type 0} (g : Ghosts S) (w : Fill) (before now : S) (began made : Bool) : Type 0 where
   pub fills : g.tells → began ≡ true → Fills w (told g before) (told g now) made
   pub calls : made ≡ true → UsesCommit (g.meters before).fuse (g.meters now).fuse

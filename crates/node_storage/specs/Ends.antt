@@ -60,7 +60,7 @@ begins_to_write (Err (Store store.Fault)) = true
 begins_to_write (Err (Store store.Worn)) = false
 begins_to_write (Err (Store store.Failed)) = false
 
--- whether a call came to what its act tells
+-- whether a call came to what its act answers
 abbrev pub is_done : {F A : Type 0} → Outcome F A → Bool
 is_done o.Off = false
 is_done (o.Refused x) = false

@@ -1,4 +1,4 @@
--- A node that was switched on or off, and one whose fuse was armed.
+-- A node that was switched on or off, or had its fuse armed.
 use Rattle.std.proofs.Common.{◌≡◌, ◌≢◌, inl, inr, ℕ, ℤ, List, [], ◌∷◌, Some, None, Bool, true, false, if◌then◌else◌, ◌↔◌, refl, sym, ◌∙◌, ap, subst, true≢false, arith}
 use Rattle.bench_base.specs.declared.words.Node.{Node}
 use Rattle.bench_base.specs.declared.ledger.Commit.{Commit}
@@ -80,7 +80,7 @@ module _ {S X : Type 0} (n : Counting S X) (m : Node) where
   stop_entries true = refl
   stop_entries false = refl
 
--- == whatever the storage tells ==
+-- == whether or not the storage exposes its contents ==
 
 module _ (m : Node) where
   start_gets : (x : Started) → MayGet (ev.On m) (start_turn m x).reply

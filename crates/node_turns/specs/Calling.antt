@@ -1,4 +1,5 @@
--- A call on its way to be told: the commit of its act, what it came to in the words of the call, and what it used of a fuse.
+-- A call that is to be reported: the commit of its act, what it came to in the words of the call, and what it used of a
+-- fuse.
 use Rattle.std.specs.Prelude.{◌≡◌, [], ◌++◌, true, Option, Some, None}
 use Rattle.bench_base.specs.declared.ledger.Commit.{Commit}
 use Rattle.bench_base.specs.declared.events.Reply.{Reply}

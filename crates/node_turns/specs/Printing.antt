@@ -54,12 +54,12 @@ to_print o.Worn = None
 to_print (o.Power c) = None
 to_print (o.Fault c) = None
 
--- where the printer fails, the commit alone is told
+-- if the printer fails, the commit alone is reported
 abbrev pub unprinted_turn : Option Commit → ℕ → Turn
 unprinted_turn commit job = turn_of (r.PrinterFault job) (with_commit commit [])
 
--- how a call with this act, which came to this, is told by what the printer takes: it prints nothing, the whole line of its mark, or a
--- part of that, where the printer fails
+-- How a call with this act, which came to this, is reported by what the printer takes. It takes nothing, the whole line of
+-- the call's mark, or a part of that line if it fails.
 pub data PrintsCall {X : Type 0} (m : Node) (act : Act X Reply Said) (x : Outcome Reply Said) (before now : Printer) : Turn → Type 0 where
   prints_nothing : to_print x ≡ None → now ≡ before → PrintsCall m act x before now (call_turn m act x)
   prints : (p : Print) → to_print x ≡ Some p → Appends before.taken now.taken (print_line p.mark) → before.faults ≤ now.faults
@@ -76,8 +76,8 @@ print_of [] = None
 print_of (entry.Printed job mark ∷ T) = Some mark
 print_of (_ ∷ T) = print_of T
 
--- What the printer took in an event with this reply: the whole line of this mark where it was printed; a part of it where the
--- printer failed, which its count tells; and otherwise nothing.
+-- What the printer took in an event with this reply: the whole line of this mark if it was printed, a part of the line if
+-- the printer failed, and otherwise nothing. A failure raised the printer's count of faults.
 pub record PrinterDid (reply : Reply) (mark : Option (List ℕ)) (before now : Printer) : Type 0 where
   pub whole : (job : ℕ) → reply ≡ r.Printed job → (x : List ℕ) × (mark ≡ Some x) × Appends before.taken now.taken (print_line x)
   pub cut : (job : ℕ) → reply ≡ r.PrinterFault job → (x : List ℕ) × (n : ℕ) × (mark ≡ Some x) × (n < length (print_line x))
@@ -85,9 +85,9 @@ pub record PrinterDid (reply : Reply) (mark : Option (List ℕ)) (before now : P
   pub rests : ((job : ℕ) → reply ≢ r.Printed job) → ((job : ℕ) → reply ≢ r.PrinterFault job) → now ≡ before
   pub later : before.faults ≤ now.faults
 
--- so of an event that was asked of node m, which is d of its kind: the mark is the one that the plan prints by any view for which it stood
-pub record NodePrints {K S N C R X : Type 0} (n : Ghosts K S N C R) (g : nv.Ghosts S) (kind : Kind N n.Seen X) (m : Node) (d : N) (today : ℤ)
-    (asked : Asked X) (s : K) (reply : Reply)
+-- the same of an event that was asked of node m, which is d of its kind: the mark is the one that the plan prints by any
+-- view that the node represented
+pub record NodePrints {K S N C R X : Type 0} (n : Ghosts K S N C R) (g : nv.Ghosts S) (kind : Kind N n.Seen X) (m : Node) (d : N) (today : ℤ) (asked : Asked X) (s : K) (reply : Reply)
     (before now : Printer) : Type 0 where
   pub by_view : (v : View n.Seen) → Stands n g d v s → g.tells → PrinterDid reply (print_of (plan_by n kind m d today v asked).after) before now
   pub mark : Option (List ℕ)

@@ -1,4 +1,4 @@
-//! A call of one node, and how it is told.
+//! A call of one node, and how it is reported.
 ghost use Rattle.std.specs.Prelude.{◌≡◌, true};
 ghost use Rattle.bench_base.specs.declared.events.Reply.{Reply};
 ghost use Rattle.node_acts.specs.declared.act.Act.{Act};
@@ -29,7 +29,7 @@ fn commit_in<X: Copy, F: Copy, A: Copy>(act: &Act<X, F, A>) -> Option<Commit>
     }
 }
 
-// How a call with this act that was done is told.
+// How a call with this act that was done is reported.
 fn done<T: Tell, K: Node, E: Callee, C: Call<E, K, K::Change>>(
     callee: &E,
     act: &Act<K::Change, E::Refusal, C::Answer>,
@@ -41,7 +41,7 @@ fn done<T: Tell, K: Node, E: Callee, C: Call<E, K, K::Change>>(
     T::done(commit_in(act), &call.answer(callee, answer))
 }
 
-// How a call with this act is told, by what it came to.
+// How a call with this act is reported, by what it came to.
 fn told<T: Tell, K: Node, E: Callee, C: Call<E, K, K::Change>>(
     callee: &E,
     act: &Act<K::Change, E::Refusal, C::Answer>,
@@ -74,8 +74,8 @@ fn told<T: Tell, K: Node, E: Callee, C: Call<E, K, K::Change>>(
     }
 }
 
-/// Calls the node, and tells what that came to. A node that is off decides nothing. `fits`: the record of a node that is on can take
-/// what the call makes of it.
+/// Calls the node, and reports what that came to. A node that is off decides nothing. `fits`: the record of a node that is
+/// on can take what the call makes of it.
 pub fn call_node<T: Tell, K: Node, E: Callee, C: Call<E, K, K::Change>>(
     place: &mut K,
     callee: &E,
@@ -117,7 +117,7 @@ fn to_print<K: Node, E: Callee, C: Call<E, K, K::Change>>(
     }
 }
 
-// The printer failed behind this commit.
+// The printer failed after this commit.
 fn unprinted<T: Tell>(commit: Option<Commit>, job: u32) -> T
     ensures { T.IsOf result (prints.unprinted_turn commit job) }
 {
@@ -127,8 +127,8 @@ fn unprinted<T: Tell>(commit: Option<Commit>, job: u32) -> T
     }
 }
 
-/// Calls the node, prints the mark that it gives to the printer, and tells what that came to. The mark is printed after the commit,
-/// as one line; where the printer fails, the commit stays. `fits` as of `call_node`.
+/// Calls the node, prints the mark that it gives to the printer, and reports what that came to. The mark is printed after
+/// the commit, as one line; if the printer fails, the commit stays. `fits` is as for `call_node`.
 pub fn call_printing<T: Tell, K: Node, E: Callee, C: Call<E, K, K::Change>, P: Sink>(
     place: &mut K,
     callee: &E,

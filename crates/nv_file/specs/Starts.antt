@@ -7,6 +7,6 @@ use Rattle.nv_file.specs.declared.starting.Starting.{Starting}
 abbrev pub stores_of : Starting → List FileNv
 stores_of s = s.stores.items
 
--- whether the storages are used as they are, behind a clean end
+-- whether the storages are used as they are, after a clean end
 abbrev pub are_reused : Starting → Bool
 are_reused s = s.are_reused

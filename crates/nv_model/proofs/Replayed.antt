@@ -66,7 +66,7 @@ module _ (bytes more : List ℕ) (steps : List Step) (x : Step) (start : List �
   long : length (steps ++ x ∷ []) ≡ length steps + 1
   long = length-append steps (x ∷ [])
 
-  -- what stood at the end is passed now
+  -- an image of the moment that was the last is now one of a moment that the record passed
   passes : (t : ℕ) (c : List ℕ) → Stands bytes steps start marks t c → Passed (bytes ++ more) (steps ++ x ∷ []) start t c
   passes t c stands =
       let same = stood_more bytes more steps x start (length steps) (omega arith) fits ∙ stood_end bytes steps start in

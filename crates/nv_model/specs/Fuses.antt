@@ -11,8 +11,8 @@ use Rattle.nv_model.specs.declared.fused.Fused.{Fused}
 abbrev pub inside : {N : Type 0} {g : Ghosts N} → Fused N g → N
 inside s = s.nv
 
--- whether power is lost, how many calls an armed fuse has left, what a tear keeps of a range and what it fills the rest
--- with, and the range of the last write that succeeded since the last sync or restart that succeeded
+-- Whether power is lost, and how many calls an armed fuse has left. What a tear keeps of a range, and what it fills the
+-- rest with. The range of the last write that succeeded since the last sync or restart that succeeded.
 pub record FuseState : Type 0 where
   pub lost : Bool
   pub fuse : Option ℕ

@@ -1,4 +1,4 @@
--- The calls that a storage in memory is told to fail, and what it answers and leaves.
+-- The calls that a storage in memory is set to fail, and what it answers and leaves.
 use Rattle.std.specs.Prelude.{ℕ, ◌+◌, ◌-◌, ◌^◌, min, List, [], ◌∷◌, ◌++◌, length, take, replicate, Bool, true, false, Option, Some, None, Result, Ok, Err, if◌then◌else◌, ◌==◌}
 use Rattle.nv_model.specs.Bytes.{laid}
 use Rattle.nv_model.specs.Meters.{Meters}

@@ -5,7 +5,7 @@ use Rattle.nv_model.specs.Moments.{IsImage}
 use Rattle.nv_model.specs.declared.step.Step.{Step}
 use Rattle.nv_model.specs.declared.step.Step.TheVariants.{Written, Torn, Synced}
 
--- what stands at a moment: what a read gives, the content after the last sync or restart, and the places written since
+-- the state at a moment: what a read gives, the content after the last sync or restart, and the places written since
 pub record Stand : Type 0 where
   pub content : List ℕ
   pub base : List ℕ
@@ -30,7 +30,7 @@ replay bytes (step ∷ steps) s = replay bytes steps (after_step bytes step s)
 abbrev pub at_first : List ℕ → Stand
 at_first start = record { content = start; base = start; written = λ i. false }
 
--- what stood after k calls of the record
+-- the state after k calls of the record
 abbrev pub stood : List ℕ → List Step → List ℕ → ℕ → Stand
 stood bytes steps start k = replay bytes (take k steps) (at_first start)
 

@@ -164,8 +164,8 @@ impl Nv for MemNv {
 impl MemNv {
     ghost use Rattle.nv_model.specs.Memories.{memory_of, new_memory, fits};
 
-    /// A storage with this content and plan, whose record has room for so many calls and so many written bytes. The content
-    /// has at most 4,294,967,295 bytes. All memory is taken here, and no later call takes any.
+    /// A storage with this content and plan, and a record that has room for so many calls and so many written bytes. The
+    /// content has at most 4,294,967,295 bytes. All memory is taken here, and no later call takes any.
     pub fn new(
         alloc: Global,
         content: Vec<u8>,

@@ -84,7 +84,7 @@ module _ (size at : ℕ) (old : List ℕ) (room : at + 5 + size ≤ length old) 
   behind_long : length (range old (at + 1) (4 + size)) ≡ 4 + size
   behind_long = length-take-le (4 + size) (drop (at + 1) old) (omega (arith, length-drop (at + 1) old))
 
-  -- behind a closed gate anything may stand
+  -- the bytes after a closed gate may be anything
   pub payload_torn : (c : List ℕ) → IsShut (slot_at size at old) → SameOutside (at + 1) (4 + size) old c → Slotted size at IsShut old c
   payload_torn c none torn = record {
     others = outside_wider at (5 + size) (at + 1) (4 + size) old c torn (omega arith) (omega arith);

@@ -1,4 +1,4 @@
--- The text of a day tells its year, month and day, and they tell the text.
+-- The text of a day determines its year, month and day, and they determine the text.
 use Rattle.std.proofs.Common.{◌≡◌, ℕ, ℤ, pos, ◌≤ℤ◌, ◌+◌, ◌-◌, ◌*◌, ◌/◌, ◌%◌, ◌≤◌, List, [], ◌∷◌, ◌++◌, length, get_or, take, drop, Option, Some, None, Bool, true, false, refl, sym, ap, ◌∙◌, arith, subst, ◌↔◌, IsSome}
 use Rattle.std.specs.Prelude.{IfSome, IfNone}
 use Rattle.std.specs.Str.{all_ascii_digits}
@@ -83,7 +83,7 @@ last_two c d y hc kc hd kd h e =
     let second : 48 + y % 10 ≡ d = omega (arith, hc, kc, hd, kd, e) in
     ap (λ x. x ∷ (48 + y % 10) ∷ []) first ∙ ap (λ x. c ∷ x ∷ []) second
 
--- a text whose cells are digits and dashes is the one of its numbers
+-- a text with digits and dashes in its cells is the one of its numbers
 abbrev Spelled : List ℕ → Type 0
 Spelled text = (y m d : ℕ) → get_or text 4 0 ≡ 45 → get_or text 7 0 ≡ 45
     → all_ascii_digits (take 4 text) ≡ true → all_ascii_digits (take 2 (drop 5 text)) ≡ true → all_ascii_digits (take 2 (drop 8 text)) ≡ true

@@ -69,7 +69,8 @@ take_of d bytes today = take_act todays_rules (number_of d) bytes today (seen_of
 
 -- == a call ==
 
--- What a call of this act did, answered and left. The record is one that can be kept, and so is the one after a commit.
+-- What a call of this act did, answered and left. The record is one that can be kept, and the record after a commit is one
+-- too.
 pub record Performs {N A : Type 0} {g : Ghosts N} (act : DeviceAct A) (old new : Device N g) (result : DeviceResult A) : Type 0 where
   pub performed : Performed g counting fill_of ShowsSeen (λ r. storage_in r.node) (λ r. seen_in r.node) (λ r. r.torn) act old.running new.running result
   pub next : torn_of old ≡ None → IfSome (commit_in counting (seen_of old) act) (λ x. IfSome x.1.state IsStorable)

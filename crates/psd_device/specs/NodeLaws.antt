@@ -1,4 +1,4 @@
--- That a device meets the laws of a node.
+-- A device meets the laws of a node.
 use Rattle.std.proofs.Common.{◌≡◌, ⊎_elim, ℕ, ◌+◌, List, Option, false, ◌∙◌, ap, arith}
 use Rattle.bench_base.specs.declared.sizes.TheConstants.{RECORD_BYTES, SLOTS, DEVICE_BYTES}
 use Rattle.bench_base.proofs.Facts.{few_more}

@@ -1,4 +1,4 @@
--- That a record can be kept, and that a payload reads as it, has one proof at most.
+-- There is at most one proof that a record can be kept, and at most one that a payload reads as it.
 use Rattle.std.proofs.Common.{◌≡◌, ◌⊎◌, inl, inr, ℕ, List, [], ◌∷◌, Option, Some, None, IfSome, ap, arith}
 use Rattle.std.proofs.Props.{props}
 use Rattle.bench_base.specs.Table.{Size, One, Two, Four, Five, Eight, IsNumber, Fit}

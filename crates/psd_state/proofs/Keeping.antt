@@ -1,4 +1,4 @@
--- For every list of commits whose record it is: the record afterwards is that of the list and the commit.
+-- If a record is that of a list of commits, the record afterwards is that of the list and the commit.
 use Rattle.std.proofs.Common.{◌≡◌, ℕ, pos, ◌+◌, ◌≤◌, ◌+ℤ◌, refl, rules, arith, Option, Some, None, Result, Ok, Err, Bool, true, false, cond, List, [], ◌∷◌, ap, sym, ◌∙◌, subst, eq-eqb, ◌==◌, if◌then◌else◌, ◌&&◌, inl, inr}
 use Rattle.std.proofs.lemmas.Int.{ints}
 use Rattle.std.proofs.lemmas.Option.{none-some, same_Some}

@@ -234,7 +234,7 @@ same_mark key n (Some q) (Some r) v w f g e =
 abbrev fields : ℕ → ℕ → List ℕ → ℕ → ℕ → ℕ → ℕ → ℕ → ℤ → ℤ → ℕ → ℕ → ℕ → Fields
 fields d p key x y z n i t u c o f = record { device = d; phase = p; key = key; ascending = x; descending = y; refunded = z; pieces = n; number = i; deadline = t; last_day = u; customer = c; origin = o; pending = f }
 
--- the numbers of a record fit where those that were written do, whatever stands for the days
+-- the numbers of a record fit if those that were written do, whatever represents the days
 pub fits_of : (s : State) (flag x y : ℕ) → Fit head_table (head 2 s) → length s.key ≡ 32 → flag ≡ flag_of s.pending
     → Fit (middle_table 2) (s.registers.ascending ∷ s.registers.descending ∷ s.registers.refunded ∷ s.registers.pieces ∷ s.number ∷ x ∷ y ∷ s.customer ∷ s.origin ∷ flag ∷ [])
     → FitsSigned w32 s.deadline → FitsSigned w32 s.last_day → Ranges s
@@ -357,7 +357,7 @@ spells_old s h r old = record { holds = h; fits = old_fits s h r old; old = λ _
 pub spells_new : (s : State) → Holds s → Ranges s → Spells 2 s
 spells_new s h r = record { holds = h; fits = r; old = λ e. absurd (omega (arith, e)) }
 
--- the byte of the phase tells the version
+-- the byte of the phase shows the version
 pub byte_old : (s : State) (bytes : List ℕ) → Spells 1 s → spelled 1 s ≡ bytes → get_or bytes 4 0 < 16
 byte_old s bytes g e =
     let code = stored_code s.phase g.holds.phase in
@@ -366,7 +366,7 @@ byte_old s bytes g e =
 pub byte_new : (s : State) (bytes : List ℕ) → Spells 2 s → spelled 2 s ≡ bytes → 16 ≤ get_or bytes 4 0
 byte_new s bytes g e = omega (arith, byte_of_phase 2 s bytes (parts_of 2 s bytes g e))
 
--- a low byte stands in no payload of version 2, and a high one in none of version 1
+-- the byte of the phase is not low in a payload of version 2, and not high in one of version 1
 pub not_second : (payload : List ℕ) (s : State) → get_or payload 4 0 < 16 → ReadsAs payload s → (IsOld s → spelled 1 s ≡ payload → ⊥) → ⊥
 not_second payload s low r none = go r.reads
   where

@@ -163,7 +163,7 @@ other_state d key (Closed j) C h o = refl
 other_state d key (Trusted e k) C h o = refl
 other_state d key (Accepted e p n) C h o = refl
 
--- and what else of the commits a record rests on
+-- and the other parts of the commits that a record rests on
 pub other_rest : (d : ℕ) (c : Commit) (C : List Commit) → same_node (node_of c) (Device d) ≡ false
     → (key_of d (c ∷ C) ≡ key_of d C) × (pending d (c ∷ C) ≡ pending d C) × (whole_descending d (c ∷ C) ≡ whole_descending d C)
 other_rest d (Made e k) C h = (rw h refl, refl, refl)

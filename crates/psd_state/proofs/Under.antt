@@ -140,7 +140,7 @@ unfolding mark_part
 not_some_mark key bytes p z n None w f e = z f
 not_some_mark key bytes p z n (Some k) w f e = n k w e
 
--- == the zeros behind a request ==
+-- == the zeros after a request ==
 
 rest_zeros : (bytes : List ℕ) (n : ℕ) → length bytes ≡ 55 → length (take (length bytes - n) (drop n bytes)) ≡ 55 - n
 rest_zeros bytes n l = ap length (take_rest bytes n) ∙ length-drop n bytes ∙ ap (λ k. k - n) l

@@ -1,4 +1,5 @@
--- What one commit does to the record of a device, and how records are told apart. The lists of commits have the newest first.
+-- What one commit does to the record of a device, and how records are distinguished. The lists of commits have the newest
+-- first.
 use Rattle.std.specs.Prelude.{◌≡◌, ℕ, ◌+◌, ℤ, false, List, ◌∷◌, Some, None, Ok}
 use Rattle.bench_base.specs.declared.words.Kind.{Kind}
 use Rattle.bench_base.specs.declared.words.Node.TheVariants.{Device}

@@ -24,7 +24,7 @@ phase_code Withdrawn = 4
 phase_code Blank = 0
 phase_code Locked = 0
 
--- in version 2 it is 16 more, so this byte tells the version
+-- in version 2 it is 16 more, so this byte shows the version
 abbrev pub phase_byte : ℕ → Phase → ℕ
 phase_byte version p = if version == 1 then phase_code p else phase_code p + 16
 

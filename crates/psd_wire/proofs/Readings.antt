@@ -311,7 +311,7 @@ held_back false r e y h = (refl, h)
 behind : (bytes : List ℕ) (n k : ℕ) (front : List ℕ) → length bytes ≡ n + k → front ≡ take n bytes → (bytes ≡ front ++ drop n bytes) × (length (drop n bytes) ≡ k)
 behind bytes n k front l e = (sym (take-append-drop n bytes) ∙ ap (λ f. f ++ drop n bytes) (sym e), omega (arith, length-drop n bytes, l))
 
--- a body that was found, and the rest behind it
+-- a body that was found, and the rest after it
 reads : (bytes : List ℕ) (x : Message) (n k : ℕ) → IsWhole x × (body x ≡ take n bytes) × (code_room x ≡ k) → length bytes ≡ n + k → (code : List ℕ) × ReadsAs bytes x code
 reads bytes x n k found l =
     let rest = behind bytes n k (body x) l found.1 in
@@ -510,7 +510,7 @@ only bytes x (code, r) = ap read r.spelled ∙ read_body x code r.whole r.long
 pub one_reading : (bytes : List ℕ) (x y : Message) → IsReading bytes x → IsReading bytes y → x ≡ y
 one_reading bytes x y r s = ok_same (sym (only bytes x r) ∙ only bytes y s)
 
--- == the message whose spelling the bytes are ==
+-- == the message that the bytes spell ==
 
 coded_found : (r : Result Message Unread) (x : Message) → coded_in r ≡ Some x → (r ≡ Ok x) × IsCoded x
 coded_found (Ok (m.Request q)) x h = let is = same_Some _ _ h in (ap (λ y. Ok y) is, subst IsCoded is refl)
@@ -568,7 +568,7 @@ length_coded_body (m.Done r) c w = omega (arith, length_row done_table (done_val
 length_coded_body (m.Debit r) c w = absurd (cc)
 length_coded_body (m.Release x) c w = absurd (cc)
 
--- bytes laid into zeros, and the 32 zeros behind them
+-- bytes laid into zeros, and the 32 zeros after them
 pub filled : (bytes new : List ℕ) → length bytes ≤ 55 → new ≡ bytes → take (length bytes + 32) (new ++ drop (length bytes) (replicate 87 0)) ≡ bytes ++ replicate 32 0
 filled bytes new short same =
     let rest : List ℕ = drop (length bytes) (replicate 87 0) in
@@ -577,7 +577,7 @@ filled bytes new short same =
     ∙ ap₂ (λ a b. a ++ b) (take_at bytes rest (length bytes) refl)
     (ap (take 32) (drop_at bytes rest (0 + length bytes) (omega arith) ∙ drop-replicate (length bytes) 87 0) ∙ take-replicate 32 (87 - length bytes) 0 (omega (arith, short)))
 
--- bytes with 32 zeros behind them read as a message if and only if they are its body
+-- bytes with 32 zeros after them read as a message if and only if they are its body
 pub body_found : (bytes : List ℕ) → IsBytes (bytes ++ replicate 32 0)
     → IfSome (coded_in (read (bytes ++ replicate 32 0))) (λ x. IsCoded x × IsWhole x × (body x ≡ bytes))
 body_found bytes h = if_some (coded_in (read (bytes ++ replicate 32 0))) _

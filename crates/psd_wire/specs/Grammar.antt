@@ -122,17 +122,17 @@ IsWhole (m.Release x) = (found : Mark × List ℕ) × (read_mark x ≡ Ok found)
 abbrev pub IsCoded : Message → Type 0
 IsCoded x = is_coded x ≡ true
 
--- how many bytes of a code stand behind the body
+-- how many bytes of a code follow the body
 abbrev pub code_room : Message → ℕ
 code_room x = if is_coded x then 32 else 0
 
--- the bytes are the body of the message, with this code behind it
+-- the bytes are the body of the message, followed by this code
 pub record ReadsAs (bytes : List ℕ) (x : Message) (code : List ℕ) : Type 0 where
   pub whole : IsWhole x
   pub spelled : bytes ≡ body x ++ code
   pub long : length code ≡ code_room x
 
--- with some code behind it
+-- with some code after it
 abbrev pub IsReading : List ℕ → Message → Type 0
 IsReading bytes x = (code : List ℕ) × ReadsAs bytes x code
 

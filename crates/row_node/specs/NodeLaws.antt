@@ -1,4 +1,4 @@
--- That a node of rows meets the laws of a node.
+-- A node of rows meets the laws of a node.
 use Rattle.std.proofs.Common.{◌≡◌, ℕ, ◌+◌, List, arith}
 use Rattle.nv_model.specs.declared.nv.Nv.{Ghosts}
 use Rattle.node_acts.specs.RowList.{RowList}

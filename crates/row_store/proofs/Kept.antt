@@ -28,7 +28,7 @@ module _ {R : Type 0} (decoded : ℕ → List ℕ → Option R) where
   filled_by k None read = tt
   filled_by k (Some h) read = filled_at k h (decoded k h.1) refl read
 
-  -- cells whose payloads read as rows hold these rows
+  -- cells with payloads that read as rows hold these rows
   pub filled_of : (cells : ℕ) (held : ℕ → Option Held) → AllRead decoded cells held → AreFilled cells (ReadsAs decoded) (λ k. row_held decoded k (held k)) held
   filled_of cells held read k lt = filled_by k (held k) (read k lt)
 
