@@ -33,7 +33,7 @@ fn fresh_desk(alloc: Global) -> Option<Departments<MemNv>>
     }
 }
 
-// The run over a bench on which nothing was done.
+// The run over an unused bench.
 fn run_over<S: BufSource, K: Sink>(
     alloc: Global,
     words: &[String],
