@@ -60,13 +60,13 @@ module _ (ρ : Rules) (H : Ledger) where
   still : (x : Reply) → IsTame H (refuse x)
   still x = inl refl
 
-  -- an act whose answers are told by such entries
+  -- an act that records its answers by such entries
   act_ok : {X F A : Type 0} (refusal : F → Reply) (reply : A → Reply) (tell : A → List Entry) (act : Act X F A) → ((a : A) → AllQuiet (tell a)) → IsTame H (plan_of refusal reply tell act)
   act_ok refusal reply tell (Refuse x) quiet = still (refusal x)
   act_ok refusal reply tell (Tell a) quiet = quiet_tame H (told (reply a) (tell a)) (quiet a)
   act_ok refusal reply tell (Commits c x a) quiet = quiet_tame H (made (reply a) c (tell a)) (quiet a)
 
-  -- an act whose answers are said
+  -- an act with answers of type `Said`
   said_ok : {X : Type 0} (act : Act X Reply Said) → IsTame H (said_plan act)
   said_ok act = act_ok (λ x. x) (λ a. a.reply) tells act tells_quiet
 

@@ -1,4 +1,4 @@
--- What events bring from outside, and which streams they need.
+-- What events take as input from outside, and which streams they need.
 use Rattle.std.specs.Prelude.{◌≡◌, ◌≢◌, ℕ, Ok}
 use Rattle.bench_base.specs.declared.events.Event.{Event}
 use Rattle.bench_base.specs.declared.events.Event.TheVariants as ev

@@ -1,4 +1,4 @@
--- What is still to come where a run has come to a place in its opening or in a turn.
+-- What is still to come in a run from a place in its opening or in a turn.
 use Rattle.std.specs.Prelude.{suc, ◌≤◌, List, ◌++◌, drop, length}
 use Rattle.bench_base.specs.declared.events.Event.{Event}
 use Rattle.generator.specs.declared.turns.Counts.{Counts}

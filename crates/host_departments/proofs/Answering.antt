@@ -116,7 +116,7 @@ module _ {N : Type 0} {g : nv.Ghosts N} (nested : (s : N) → g.tells → Nested
       rows_by : (rows : Rows) → rows_of m.desk ≡ rows → rows_of new.desk ≡ rows
       rows_by rows is = ap (λ (k : Departments N g). rows_of k) desk_is ∙ is
 
-    -- the answer that a desk shows, to what was asked
+    -- the answer that an extension shows, to what was asked
     abbrev answer_of : List Asked → Departments N g → Answered
     answer_of asked desk = record { asked = asked; texts = said_texts (said_of desk); after = rows_of desk }
 
@@ -384,7 +384,7 @@ module _ {N : Type 0} {g : nv.Ghosts N} (nested : (s : N) → g.tells → Nested
         (failed : Option CellCommit) × Ends g decoded 12 CELLS (view_of old.desk) (view_of new.desk) trace failed
         × AreAnswered Steps old.scene (rows_of old.desk) trace new.scene (rows_of new.desk) failed
 
-    -- with a line more, at which none failed
+    -- with a line more, and no failure at it
     with_line : (d : SideStep DepartmentLine) (old mid new : Departments N g) (rest : List (SideStep DepartmentLine)) (failed : Option CellCommit) → (HasBroken (d ∷ rest) → HasBroken rest) → (HasBroken rest → HasBroken (d ∷ rest))
         → Went old mid → Ends g decoded 12 CELLS (view_of mid) (view_of new) rest failed → Ends g decoded 12 CELLS (view_of old) (view_of new) (d ∷ rest) failed
     with_line d old mid new rest failed down up went (inl (more, whole, none)) = inl (went_on old mid new went more, λ broke. whole (down broke), none)

@@ -58,7 +58,7 @@ job_is j p i q is = cc
 postage_is : (j p i q : ℕ) → row.Job j p ≡ row.Job i q → p ≡ q
 postage_is j p i q is = cc
 
--- the row is no job, or one whose Ordered counts with its postage
+-- the row is no job, or its Ordered counts with its postage
 abbrev IsOrdered : DepartmentRow → Ledger → Type 0
 IsOrdered x H = (j p : ℕ) → x ≡ row.Job j p → ordered_postage j (counted H) ≡ Some p
 

@@ -56,7 +56,7 @@ module _ (rows : Rows) (sound : IsSound rows) (long : length rows ≡ 1040) (pla
   cut_sound (Print j) asked c line cut = absurd cut
 
 module _ {B : Type 0} (Steps : B → B → StepRecord → Turn → Type 0) (after : Rows) (sound : IsSound after) (long : length after ≡ 1040) (places : (k j : ℕ) → Keeps after k j → (16 ≤ k) × (k < 1040)) where
-  -- the line at which a commit failed is the last, so what was kept then is what is kept now
+  -- the line where a commit failed is the last, so what was kept then is what is kept now
   pub failed_sound : (s : B) (rows : Rows) (trace : List (SideStep DepartmentLine)) (t : B) (failed : Option CellCommit) → BrokenLast trace → AreAnswered Steps s rows trace t after failed
       → IsSound (with_commit failed after)
   failed_sound s rows [] t failed last did = subst (λ (o : Option CellCommit). IsSound (with_commit o after)) (sym did.2) sound

@@ -41,6 +41,6 @@ module _ (room : Room 12) where
     by_row k j (Some (Quota q)) is job = cc
     by_row k j (Some (Job i p)) is job = ((row_fits k (Job i p) is).0, row_inside k (Job i p) is)
 
-    -- a job stands behind the quotas
+    -- a job's cell is after the quotas
     pub job_place : (k j : ℕ) → Keeps (rows_in room) k j → (16 ≤ k) × (k < cells_of room)
     job_place k j keeps = by_row k j (row_in (rows_in room) k) refl keeps

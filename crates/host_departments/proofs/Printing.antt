@@ -48,7 +48,7 @@ print_given pool j (ev.Deliver k) is = deliver_no_print k j (slice_get pool k) i
 print_given pool j (ev.ScanMsg scan k) is = scan_no_print scan k j (slice_get pool k) is
 print_given pool j _ is = is
 
--- a step that tells of printing is one of `print`
+-- a step that reports printing is one of `print`
 pub prints_by : (n : Nodes) (s t : SceneOf n) (d : StepRecord) (turn : Turn) → StepsBy n s t d turn → (j : ℕ) → d.reply ≡ r.Printed j → d.event ≡ ev.Print j
 prints_by n s t d turn by j is =
     let did = by.0 in

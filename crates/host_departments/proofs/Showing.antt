@@ -1,4 +1,4 @@
--- Departments of which no commit failed are shown by their storage.
+-- Departments without a failed commit are shown by their storage.
 use Rattle.std.proofs.Common.{◌≡◌, ℕ, List, false, sym, subst}
 use Rattle.nv_model.specs.Moments.{Image}
 use Rattle.nv_model.specs.declared.nv.Nv as nv

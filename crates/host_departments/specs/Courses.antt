@@ -93,7 +93,7 @@ module _ {N : Type 0} {g : Ghosts N} where
 
   -- == after it ==
 
-  -- the job is committed behind those that the department has
+  -- the job is committed after those that the department has
   pub record Takes (d j p left : ℕ) (old : Departments N g) (next : Next) (new : Departments N g) : Type 0 where
     pub place : ℕ
     pub jobs : HasJobs (rows_of old) d place

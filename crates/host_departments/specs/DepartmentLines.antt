@@ -15,7 +15,7 @@ IsLine (Assign d j) = IsDepartment d × IsWord j
 IsLine (Spent d) = IsDepartment d
 IsLine (Print j) = IsWord j
 
--- the words behind `dept`; a `print` has none
+-- the words after `dept`; a `print` has none
 abbrev pub IsBehind : DepartmentLine → List (List ℕ) → Type 0
 IsBehind (Quota d q) ws = IsDepartment d × IsWord q × (ws ≡ codes "quota" ∷ decimal d ∷ decimal q ∷ [])
 IsBehind (Assign d j) ws = IsDepartment d × IsWord j × (ws ≡ codes "assign" ∷ decimal d ∷ decimal j ∷ [])

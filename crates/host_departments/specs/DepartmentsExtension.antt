@@ -1,4 +1,4 @@
--- The departments, as a desk.
+-- The departments, as an extension.
 use Rattle.std.specs.Prelude.{◌≡◌}
 use Rattle.nv_model.specs.declared.nv.Nv as nv
 use Rattle.node_turns.specs.Turns.{sent_in}

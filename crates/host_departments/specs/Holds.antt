@@ -23,7 +23,7 @@ abbrev pub ordered : List Commit → Rows → ℕ → ℕ
 ordered C rows d = sum_to 64 (λ i. ordered_at C (row_in rows (first_cell d + i)))
 
 -- WHAT IS PROMISED: what a department has spent is the postage that was ordered for its jobs; a job has no Ordered with other postage; and each has one.
--- So it is after a next run too, whose premise this is.
+-- This is a premise of the next run, so it holds after that run too.
 pub record DepartmentsHold (rows : Rows) (H : Ledger) : Type 0 where
   pub spent : (d : ℕ) → IsDepartment d → spent rows d ≡ ordered (counted H) rows d
   pub only : (k j p : ℕ) → row_in rows k ≡ Some (Job j p) → (d piece a class : ℕ) → Contains (counted H) (Ordered j d piece a class) → a ≡ p

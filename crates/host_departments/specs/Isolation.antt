@@ -34,7 +34,7 @@ abbrev pub AreSameHeard : List Asked → List Asked → Type 0
 AreSameHeard asked other = (j : ℕ) (s t : Turn) → asked ≡ record { event = ev.Send j; turn = s } ∷ []
     → other ≡ record { event = ev.Send j; turn = t } ∷ [] → IsSameHeard j s t
 
--- Each line of a department is answered by the same texts, whatever else is kept of others.
+-- Each line of a department is answered by the same texts, whatever is kept of others.
 abbrev pub AreIsolated : Type 0
 AreIsolated =
     (d : ℕ) (own : DepartmentLine) → IsLineOf d own → (rows other : Rows) → IsSameFor d rows other

@@ -28,7 +28,7 @@ first_alone tail line is = record {
       ∙ ap (λ (ws : List (List ℕ)). joined ws) end.1 in let first : 100 ≡ 101 = ap (λ (l : List ℕ). get_or l 0 0) two in omega (arith, first);
 }
 
--- one whose first word is `dept`
+-- a line with `dept` as its first word
 dept_alone : (rest : List (List ℕ)) (line : List ℕ) → words_in line ≡ codes "dept" ∷ rest → IsAlone line
 dept_alone rest line is = let at = begins_with 100 (codes "ept") rest line is in first_alone at.0 line at.1
 

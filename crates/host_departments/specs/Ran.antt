@@ -37,7 +37,7 @@ IsWithinQuotas rows = (d : ℕ) → IsDepartment d → spent rows d ≤ or_zero 
 abbrev pub IsOfOne : Rows → Type 0
 IsOfOne rows = (d e j : ℕ) → IsDepartment d → IsDepartment e → Has rows d j → Has rows e j → d ≡ e
 
--- a job whose printing was told has a department
+-- a job that was reported as printed has a department
 abbrev pub PrintsAssigned : Rows → StepRecord → Type 0
 PrintsAssigned rows d = (j : ℕ) → d.reply ≡ r.Printed j → IsAssigned rows j
 
@@ -46,15 +46,15 @@ abbrev pub AllAssigned : Rows → List StepRecord → Type 0
 AllAssigned rows [] = Unit {0}
 AllAssigned rows (d ∷ steps) = PrintsAssigned rows d × AllAssigned rows steps
 
--- The departments and the bench did the steps; each line about departments has its answer, by what was kept then and by what was heard of its message at
--- that place of the run; a line is left to the bench only as a `print` of an assigned job or as one that is not about departments; and what is kept then is
--- within the quotas, with each job of one department at most, which each job has that was printed. One commit may have failed: then a later boot finds what
--- is kept without it or with it, which agrees either way. At every moment of the run each image shows what is kept then, or
--- that with the one commit in hand. By a history for which the bench stood, and where the jobs of earlier runs are backed by it, what is kept at each
--- line holds by the ledger so far, and `dept spent` is answered by it, up to the first forged event. Where nothing was forged, either holds by the ledger that
--- the steps leave.
-pub record DidDepartments (n : Nodes) {N : Type 0} (own : nv.Ghosts N) (old new : World (SceneOf n) (Departments N own)) (outcome : SideStatus)
-    (trace : List (SideStep DepartmentLine)) : Type 0 where
+-- The departments and the bench did the steps. Each line about departments has its answer, by what was kept then and by what was heard of its
+-- message at that place of the run. A line is left to the bench only as a `print` of an assigned job or as one that is not about departments.
+-- What is kept at the end is within the quotas. Each job has one department at most, and each job that was printed has one.
+-- One commit may have failed: then a later boot finds what is kept without it or with it, which agrees either way. At every moment of the run
+-- each image shows what is kept then, or that with the one commit in hand.
+-- The rest is by a history that the bench represented, if the jobs of earlier runs are backed by it. Up to the first forged event, what is kept
+-- at each line holds by the ledger so far, and `dept spent` is answered by it. If nothing was forged, what is kept holds by the ledger that the
+-- steps leave, both without the failed commit and with it.
+pub record DidDepartments (n : Nodes) {N : Type 0} (own : nv.Ghosts N) (old new : World (SceneOf n) (Departments N own)) (outcome : SideStatus) (trace : List (SideStep DepartmentLine)) : Type 0 where
   pub side : DidSide n (departments_desk own) old new outcome trace
   pub failed : Option CellCommit
   pub answers : AreAnswered (StepsBy n) (scene side.begun old.scene.outside) (rows_of old.desk) trace side.behind.scene (rows_of new.desk) failed

@@ -25,7 +25,7 @@ use script_replay::status::SideStatus;
 use std::alloc::Global;
 use text_streams::BufSource;
 
-/// Does a script whose lines are events of the bench or about departments, where the words are `departments` alone. Only jobs that a department has
+/// Does a script with lines that are events of the bench or about departments, if the words are `departments` alone. Only jobs that a department has
 /// taken are printed, and each department takes jobs within its quota.
 pub fn run_departments<S: BufSource, R: Source, K: Sink, P: Sink, N: Nv + Drop>(
     alloc: Global,
@@ -80,7 +80,7 @@ fn fresh_desk(alloc: Global) -> Option<Departments<MemNv>>
     }
 }
 
-// The run over a bench on which nothing was done.
+// The run over an unused bench.
 fn run_over<S: BufSource, K: Sink>(
     alloc: Global,
     words: &[String],

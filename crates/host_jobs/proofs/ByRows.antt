@@ -1,4 +1,4 @@
--- What sound rows tell is what their commits tell.
+-- What sound rows record is what their commits record.
 use Rattle.std.proofs.Common.{◌≡◌, ◌≢◌, ℕ, ◌+◌, ◌-◌, ◌%◌, ◌<◌, ◌≤◌, Bool, true, false, List, length, get_or, Option, Some, None, ⊎_elim, refl, sym, ap, subst, ◌∙◌, true≢false, arith}
 use Rattle.std.specs.Prelude.{◌&&◌, nat_le, nat_lt, if◌then◌else◌}
 use Rattle.std.proofs.lemmas.Bool.{cases_Bool, cases_eq, and_parts, le-leb, lt-ltb, leb-true, ltb-true}
@@ -29,7 +29,7 @@ ordered_state state.Held h = absurd (true≢false (sym h))
 ordered_state state.Begun h = absurd (true≢false (sym h))
 ordered_state state.Closed h = absurd (true≢false (sym h))
 
--- what the row in the cell of a job tells of it
+-- what the row in the cell of a job says of that job
 abbrev pub Tells : ℕ → List Commit → Option JobRow → Type 0
 Tells j C None = in_cells j C ≡ false
 Tells j C (Some r) = (in_cells j C ≡ true) × IsRowOf r j C

@@ -46,7 +46,7 @@ first_none None p h = refl
 first_none (Some a) p h = absurd (none-some _ (sym h))
 
 module _ (rows : Jobs) (C : List Commit) (sound : AreSound rows) (are : AreRowsOf rows C) where
-  -- a row that is put, where it is the one that the commits tell of its job
+  -- a row that is put, if it is the one that the commits record of its job
   put_after : (d : Commit) (x : JobRow) → place_of d ≡ OfJob (cell_of x.job) → record_of (job_no d) (d ∷ C) ≡ Some x → put_row rows x ≡ rows_after (d ∷ C)
   put_after d x place is =
       sym (listed_is HOST_CELLS (λ k. cell_row k (d ∷ C)) None (put_row rows x) (length-set rows (cell_of x.job) (Some x) ∙ sound.placed.long) (λ k lt. ⊎_elim
@@ -128,7 +128,7 @@ module _ (rows : Jobs) (C : List Commit) (sound : AreSound rows) (are : AreRowsO
     abbrev with_both : JobState → List ℕ → Option (List ℕ) → Option JobRow
     with_both s tops mark = Some (record r { state = s; tops = tops; indicium = mark })
 
-    -- what the commits tell after one more, of which the job and the state are known
+    -- what the commits record of the job after one more, if its job and its state are then known
     record_after : (d : Commit) (s : JobState) → job_of r.job (d ∷ C) ≡ Some (job_in r) → state_of r.job (d ∷ C) ≡ Some s
         → record_of r.job (d ∷ C) ≡ with_both s (tops_after (d ∷ C)) (held_of r.job (d ∷ C))
     record_after d s job stands =

@@ -1,4 +1,4 @@
--- What commits in the host's turn tell of its jobs: of each device one at most is open, its piece is above all that were held,
+-- What commits in the host's turn record of its jobs: each device has one open job at most, its piece is above all that were held,
 -- and a job that is not closed is one of the last 1,024.
 use Rattle.std.proofs.Common.{◌≡◌, ◌≢◌, ℕ, ◌+◌, ◌-◌, ◌<◌, ◌≤◌, true, false, List, [], ◌∷◌, Option, Some, None, ⊎_elim, refl, sym, ap, subst, ◌∙◌, true≢false, arith}
 use Rattle.std.specs.Prelude.{◌==◌, max}

@@ -1,4 +1,4 @@
--- That what is kept is that of the rows has one proof at most.
+-- The statement that what is kept is that of the rows has one proof at most.
 use Rattle.std.proofs.Common.{ℕ, List, Option, Some, None}
 use Rattle.std.proofs.Props.{props}
 use Rattle.std.specs.Prelude.{IfSome}

@@ -1,4 +1,4 @@
--- The order in which the host's commits come, the newest first.
+-- The order of the host's commits, the newest first.
 use Rattle.std.specs.Prelude.{◌≡◌, ℕ, ◌+◌, ◌-◌, ◌≤◌, true, List, [], ◌∷◌, Some, None, Ok}
 use Rattle.bench_base.specs.declared.words.JobState.TheVariants as state
 use Rattle.bench_base.specs.declared.ledger.Commit.{Commit}

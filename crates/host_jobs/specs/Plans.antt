@@ -17,7 +17,7 @@ use Rattle.host_jobs.specs.declared.orders.Shelf.{Shelf}
 use Rattle.host_jobs.specs.Acts.{HostAct, LookUps, order_by, debit_message_by, begin_print_by, close_by, take_by}
 use Rattle.host_jobs.specs.Records.{tops_after, record_of}
 
--- == what is told ==
+-- == what is reported ==
 
 -- an act, by how it says what it answers
 abbrev pub says : {A : Type 0} → (A → Said) → HostAct A → Act JobRow Reply Said

@@ -51,7 +51,7 @@ no_jobs = listed HOST_CELLS (λ k. None)
 abbrev pub row_in : Jobs → ℕ → Option JobRow
 row_in rows k = get_or rows k None
 
--- the row takes the place of what stood in its cell
+-- the row takes the place of what was in its cell
 abbrev pub put_row : Jobs → JobRow → Jobs
 put_row rows r = set rows (cell_of r.job) (Some r)
 
@@ -72,7 +72,7 @@ abbrev pub first_found : {A B : Type 0} → (A → Option B) → List A → Opti
 first_found f [] = None
 first_found f (x ∷ xs) = first_of (f x) (first_found f xs)
 
--- the last job, 0 where there is none
+-- the last job; 0 if there is no job
 abbrev pub last_in : Jobs → ℕ
 last_in rows = greatest number_in rows
 

@@ -80,7 +80,7 @@ pub record IsDerived (rows : Jobs) (kept : Kept) : Type 0 where
 
 -- == the row that is written next ==
 
--- it comes after what stood in its cell: the same job, or one that is closed
+-- it comes after what was in its cell: the same job, or one that is closed
 abbrev pub Comes : JobRow → JobRow → Type 0
 Comes x old = ((old.job ≡ x.job) × (old.device ≡ x.device)) ⊎ ((old.state ≡ state.Closed) × (old.job ≤ x.job))
 

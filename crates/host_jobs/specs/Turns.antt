@@ -1,4 +1,4 @@
--- The order in which the host's own calls make its commits, the newest first: the order of `Order`, and what the refusals of
+-- The order of the commits that the host's own calls make, the newest first: that of `Order`, and what the refusals of
 -- each call leave.
 use Rattle.std.specs.Prelude.{◌≡◌, ℕ, ◌+◌, ◌-◌, ◌<◌, ◌≤◌, true, List, [], ◌∷◌, Some, None}
 use Rattle.bench_base.specs.declared.words.JobState.TheVariants as state

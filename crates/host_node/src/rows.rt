@@ -19,8 +19,8 @@ pub struct HostRows {
 /// Memory for the 1,024 cells of the host, and for the rows of their jobs.
 pub type HostRoom = RowRoom<HostRows>;
 
-/// The host over storage of 245,760 bytes: 1,024 cells of two slots, whose payload is a job. While it is off, what it knew of
-/// its storage counts for nothing.
+/// The host over storage of 245,760 bytes: 1,024 cells of two slots, each with a job as payload. While it is off, what it
+/// knew of its storage counts for nothing.
 pub type HostNode<N> = RowNode<N, HostRows>;
 
 impl Rows for HostRows {

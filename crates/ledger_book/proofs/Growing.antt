@@ -8,7 +8,7 @@ use Rattle.bench_base.specs.Ledger.{Ledger, counted, count_of, torn_of, at_up}
 use Rattle.ledger_book.specs.Growth.{newest, grown, settled_by}
 use Rattle.ledger_terms.specs.Lawful.{Always}
 
--- one more entry adds the commit that counts by it, and nothing else
+-- one more entry adds only the commit that counts by it
 at_up_grown : (o : Option Commit) (n : Node) (k : ℕ) (C : List Commit) → at_up o n k C ≡ grown (settled_by o n k C) C
 at_up_grown None n k C = refl
 at_up_grown (Some c) n k C = go (eqb k (count_of n C + 1))

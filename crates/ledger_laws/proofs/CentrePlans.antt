@@ -163,14 +163,14 @@ module _ (ρ : Rules) (H : Ledger) (i : Inv ρ H) (on : is_on Centre H ≡ true)
   abbrev C : List Commit
   C = counted H
 
-  -- the plan of an act of the centre that is told so
+  -- the plan of an act of the centre that is reported so
   abbrev OkTold : {A : Type 0} → (A → Said) → CentreAct A → Type 0
   OkTold say act = PlanOk ρ H (said_plan (centre.says say act))
 
   no_ok : (x : CentreRefusal) → IsSaneCentre x → PlanOk ρ H (refuse (r.CentreRefused x))
   no_ok x s = ok_refuse ρ H (r.CentreRefused x) refl s
 
-  -- what is only told
+  -- what is only reported
   told_ok : (x : Reply) → IsSane x → after (told x []) x H ≡ H → PlanOk ρ H (told x [])
   told_ok x s plain = record { sane = s; plain = plain; no_up = λ l k h. refl; fit = λ y h. absurd (none-some _ h); keeps = λ j. j }
 

@@ -149,7 +149,7 @@ not_stray p q kind amount h =
     (cases_Bool (is_granted p.verdict)))
     h
 
--- how a debit is told of: the answer is a plain one, and what is told needs no more than that the mark is the device's
+-- how a debit is reported: the answer is a plain one, and what is recorded needs no more than that the mark is the device's
 pub record TellerOk (ρ : Rules) (T : Teller) (d piece : ℕ) : Type 0 where
   pub sane : (again : Bool) (x : List ℕ) → IsSane (T.reply again x)
   pub plain : (p : Plan) (again : Bool) (x : List ℕ) (H : Ledger) → after p (T.reply again x) H ≡ p.after ++ with_commit p.commit H
@@ -303,7 +303,7 @@ module _ (ρ : Rules) (carried : IsCarried ρ) (H : Ledger) (i : Inv ρ H) where
         bound = omega (arith, carried.total, sums.within);
       }
 
-  -- the mark that is told is the one of the debit
+  -- the mark that is reported is the one of the debit
   same_mark : (d : ℕ) (q : DebitMsg) (t : ℤ) (key : List ℕ) → key_of d (counted H) ≡ Some key → indicium_after d q.piece q.postage q.class t ρ.version (counted H) ≡ marks.spell (mark_made ρ (state_of d key (counted H)) q t) key
   unfolding indicium_after mark_after
   same_mark d q t key has = ap (λ o. marks.spell (mark_after d q.piece q.postage q.class t ρ.version (counted H)) (key_or_none o)) has
@@ -488,7 +488,7 @@ module _ (ρ : Rules) (carried : IsCarried ρ) (H : Ledger) (i : Inv ρ H) where
         sure = tt;
       })))
 
-  -- a debit that came as a message is told by its message
+  -- a debit that came as a message is reported by its message
   released_plan : (d k piece : ℕ) (act : DeviceAct Franked) → Devices.franked_plan (Devices.sent d piece k) d act ≡ Devices.taken_plan d k (acts.released piece act)
   released_plan d k piece (Refuse x) = refl
   released_plan d k piece (Tell f) = refl

@@ -48,7 +48,7 @@ module _ (ρ : Rules) where
       (λ s. rw s le)
   pieces_le d (_ ∷ C) g = pieces_le d C g.1
 
-  -- the number of a piece is one of 32 bits, and so is their count
+  -- the number of a piece has 32 bits, and their count has 32 bits too
   pub pieces_word : (d : ℕ) (C : List Commit) → Good ρ C → IsWord (pieces d C)
   pieces_word d [] g = omega arith
   pieces_word d (Debited e p a k t v ∷ C) g = either e d

@@ -1,5 +1,5 @@
 -- Which commits may follow which. `Fits ρ c C` says what the node of c had looked at when it made c after the commits C: that
--- its refusals did not hold, and what its messages told it. In a good list each commit fits those before it. Two kinds of
+-- its refusals did not hold, and what its messages contained. In a good list each commit fits those before it. Two kinds of
 -- facts stand here: facts about the node's own commits, and, about other nodes, look-ups by number that stay once they are
 -- found. So a commit of one node can't spoil what another node's commit rests on. The records speak of values and not of the
 -- list, so that a commit that changes none of them leaves them as they are.

@@ -1,5 +1,5 @@
 -- Every history keeps the invariant, whatever fails. Each part of an event's plan is right; so what any move adds keeps the
--- invariant; and a later edition of the rules allows what the one before it does.
+-- invariant; and a later version of the rules allows what the one before it does.
 use Rattle.std.proofs.Common.{◌≡◌, ℕ, ℤ, pos, ◌≤◌, ◌+ℤ◌, ◌≤ℤ◌, true, false, true≢false, List, [], ◌∷◌, length, drop, Option, Some, None, Result, Ok, Err, refl, sym, ap, subst, ◌∙◌, inl, inr, ⊎_elim, arith}
 use Rattle.std.specs.Prelude.{◌==◌, nat_lt}
 use Rattle.std.proofs.lemmas.Bool.{cases_Bool}
@@ -244,7 +244,7 @@ pub carried_by : (ρs : List Rules) (ρ : Rules) → Follows ρs ρ → IsCarrie
 carried_by [] ρ f = f
 carried_by (σ ∷ σs) ρ f = f.0
 
--- every history by these editions keeps the invariant of each that comes after them
+-- every history by these versions of the rules keeps the invariant of each that comes after them
 pub histories : (τ : Tariff) (ρs : List Rules) → Editions ρs → (H : Ledger) → History τ ρs H → (ρ : Rules) → Follows ρs ρ → Inv ρ H
 histories τ ρs E H nothing σ a = inv_none σ
 histories τ ρs E H (begins {H = I} h) σ a = inv_begin σ I (histories τ ρs E I h σ a)

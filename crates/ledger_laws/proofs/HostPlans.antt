@@ -132,7 +132,7 @@ module _ (ρ : Rules) (carried : IsCarried ρ) (H : Ledger) (i : Inv ρ H) where
 
   -- == the host ==
 
-  -- the plan of an act of the host that is told so
+  -- the plan of an act of the host that is reported so
   abbrev OkTold : {A : Type 0} → (A → Said) → HostAct A → Type 0
   OkTold say act = PlanOk ρ H (said_plan (host.says say act))
 
@@ -158,7 +158,7 @@ module _ (ρ : Rules) (carried : IsCarried ρ) (H : Ledger) (i : Inv ρ H) where
   order_ok d p k on device piece class (Some (Err x)) price = no_host (no.Rate x)
   order_ok d p k on device piece class (Some (Ok a)) price = priced_ok d p a k (tops_after (counted H)) on device piece (price a refl) class (open_job d (counted H)) refl
 
-  -- the message for a job keeps what is told true
+  -- the message for a job keeps what is reported true
   sends : (l j : ℕ) (x : JobRow) → job_of j (counted H) ≡ Some (job_in x) → OkTold (host.told_sent j l) (Tell (debit_note x))
   sends l j x at =
       let b = job_in x in

@@ -202,7 +202,7 @@ module _ (ρ : Rules) where
         prints = (told.prints, held_once P C g told.sure);
       }
 
-  -- what follows from good commits and from what is told holds of each prefix
+  -- what follows from good commits and from what is reported holds of each prefix
   always : (Q : Ledger → Type 0) → ((P : Ledger) → Good ρ (counted P) → Told P → Q P) → (H : Ledger) → Good ρ (counted H) → Always Told H → Always Q H
   always Q f [] g t = f [] g t
   always Q f (k ∷ H) g t = (f (k ∷ H) g t.0, always Q f H (good_before ρ k H g) t.1)

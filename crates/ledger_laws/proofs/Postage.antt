@@ -107,7 +107,7 @@ accepted_elsewhere e d p n q C s = rw s refl
 
 -- == the postage of some of the debits ==
 
--- of those whose piece is one of these
+-- the postage of the debits of these pieces
 abbrev postage_where : (ℕ → Bool) → ℕ → List Commit → ℕ
 postage_where f d [] = 0
 postage_where f d (Debited e p a k t v ∷ C) = if e == d then (if f p then postage_where f d C + a else postage_where f d C) else postage_where f d C
@@ -166,7 +166,7 @@ module _ (ρ : Rules) where
       (λ s. rw s more)
   one_more f g d p was now others (_ ∷ C) good = one_more f g d p was now others C good.1
 
-  -- what was accepted has the postage of the debits whose piece was accepted
+  -- what was accepted has the postage of the debits of accepted pieces
   by_debits : (d : ℕ) (C : List Commit) → Good ρ C → AreDebited C → accepted_postage d C ≡ Some (postage_where (is_accepted d C) d C)
   by_debits d [] good all = refl
   by_debits d (Debited e p a k t v ∷ C) good all =

@@ -16,7 +16,7 @@ use Rattle.ledger_moves.specs.Tariffs.{Tariff}
 use Rattle.ledger_moves.specs.Moves.{Moves}
 use Rattle.ledger_moves.specs.Histories.{Unforged, History}
 
--- P holds of every history, whatever the tariff and the editions of the rules
+-- P holds of every history, whatever the tariff and the versions of the rules
 abbrev pub ForHistories : (Tariff → Rules → List Rules → Ledger → Type 0) → Type 0
 ForHistories P = (τ : Tariff) (ρ : Rules) (ρs : List Rules) (H : Ledger) → Editions (ρ ∷ ρs) → History τ (ρ ∷ ρs) H → P τ ρ ρs H
 
@@ -29,7 +29,7 @@ abbrev pub MayShowEither : Tariff → List Rules → Ledger → Type 0
 MayShowEither τ ρs H = (t : ℤ) → day_in H ≡ Some t → (n : Node) (c : Commit) → torn_of n H ≡ Some c
     → (k : ℕ) → (k ≡ count_of n (counted H)) ⊎ (k ≡ count_of n (counted H) + 1) → History τ ρs (Up n k ∷ H)
 
--- What holds of a history by the rules ρ and the editions ρs before them.
+-- What holds of a history by the rules ρ and the versions ρs before them.
 pub record Holds (τ : Tariff) (ρ : Rules) (ρs : List Rules) (H : Ledger) : Type 0 where
   pub lawful : Lawful ρ H
   pub owners : OfCounted HasOwner H

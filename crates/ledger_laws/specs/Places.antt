@@ -9,7 +9,7 @@ use Rattle.bench_base.specs.Cells.{Place, OfDevice, OfRow, OfCustomer, OfJob, Of
 use Rattle.bench_base.specs.Ledger.{count_of}
 use Rattle.bench_base.specs.Scans.{blocks}
 
--- in whose storage a place lies
+-- the node that has the place in its storage
 abbrev pub node_at : Place → Node
 node_at (OfDevice d) = Device d
 node_at (OfRow d) = Centre

@@ -55,7 +55,7 @@ AreKnown (Scanned bytes) H = IsKnownMark bytes (read_mark bytes) H
 abbrev pub Unforged : Event → Ledger → Type 0
 Unforged x H = AreKnown (brought_by x) H
 
--- a history under these editions of the rules, of which the newest comes first: what was one by the earlier editions is one
+-- a history under these versions of the rules, the newest first: what was a history by the earlier versions is one
 pub data History (τ : Tariff) : List Rules → Ledger → Type 0 where
   nothing : {ρs : List Rules} → History τ ρs []
   begins : {ρs : List Rules} {H : Ledger} → History τ ρs H → History τ ρs (e.Begin ∷ H)

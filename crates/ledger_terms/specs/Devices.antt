@@ -81,8 +81,8 @@ phase_of false false false = Manufactured
 abbrev pub phase : ℕ → List Commit → Phase
 phase d C = phase_of (applied_kind Withdraw d C) (applied_kind Audit d C) (applied_kind Enrol d C)
 
--- the last day on which the device franks any postage: 92 days after the day in the Request of its last granted and applied reset or audit, and 0
--- before the first; small postage is franked for the days of grace behind it
+-- The device franks any postage up to this day, inclusive: 92 days after the day in the Request of its last granted and applied reset or
+-- audit, and 0 before the first. It franks small postage for the days of grace after it.
 abbrev pub deadline : ℕ → List Commit → ℤ
 deadline d [] = pos 0
 deadline d (Applied e n v ∷ C) = if e == d then (if is_dated v (request_of d n C).kind then (request_of d n C).day +ℤ pos 92 else deadline d C)

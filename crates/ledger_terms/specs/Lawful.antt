@@ -1,4 +1,5 @@
--- What every history meets: nine clauses that hold of each prefix of the ledger. Over its counted commits they say what the newest commit may be after those before it.
+-- What every history meets: nine clauses that hold of each prefix of the ledger. They say what the newest of its counted commits may be
+-- after those before it.
 use Rattle.std.specs.Prelude.{◌≡◌, ℕ, ℤ, pos, ◌+◌, ◌-◌, ◌+ℤ◌, ◌≤◌, ◌≤ℤ◌, ◌<ℤ◌, Bool, true, false, List, [], ◌∷◌, Option, Some, None, IsSome, ◌==◌, ◌&&◌, ◌⊎◌, if◌then◌else◌}
 use Rattle.bench_base.specs.declared.words.Phase.TheVariants.{InService}
 use Rattle.bench_base.specs.declared.ledger.Commit.{Commit}
@@ -37,9 +38,9 @@ asks d [] = 0
 asks d (Asked e n note ∷ C) = if e == d then asks d C + 1 else asks d C
 asks d (_ ∷ C) = asks d C
 
--- the k-th Asked has number k, and comes after the Applied of the number before;
--- a Ruled comes once for each number, after the Asked of that number with the same Request;
--- an Applied comes once for each number, after the Ruled of that number with the same verdict
+-- The k-th Asked has number k, and comes after the Applied of the number before.
+-- A Ruled comes once for each number, after the Asked of that number with the same Request.
+-- An Applied comes once for each number, after the Ruled of that number with the same verdict.
 abbrev pub Numbering : List Commit → Type 0
 Numbering (Asked d n note ∷ C) = (n ≡ asks d C + 1) × ((n ≡ 1) ⊎ IsSome (applied_of d (n - 1) C))
 Numbering (Ruled d n v note ∷ C) = (ruling_of d n C ≡ None) × (note_of d n C ≡ Some note)

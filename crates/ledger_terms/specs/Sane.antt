@@ -1,4 +1,4 @@
--- Answers that never come where devices and centre are honest.
+-- Answers that are never given if devices and centre are honest.
 use Rattle.std.specs.Prelude.{◌≡◌, Bool, true, false}
 use Rattle.bench_base.specs.declared.words.Verdict.{Verdict}
 use Rattle.bench_base.specs.declared.words.Verdict.TheVariants.{Imbalance}

@@ -1,4 +1,4 @@
--- What is so of each move that a desk's own definitions allow is so of each in a run.
+-- What is so of each move that an extension's own definitions allow is so of each in a run.
 use Rattle.std.proofs.Common.{List, [], ◌∷◌}
 use Rattle.bench_base.specs.declared.events.Event.{Event}
 use Rattle.node_turns.specs.declared.turn.Turn.{Turn}

@@ -1,4 +1,4 @@
--- What a run leaves of a desk's own storage, by what each of its commits left.
+-- What a run leaves of an extension's own storage, by what each of its commits left.
 use Rattle.std.proofs.Common.{◌≡◌, ◌⊎◌, ◌↔◌, inl, inr, ℕ, ◌≤◌, List, Option, Some, None, Result, Ok, Err, Bool, true, false, refl, sym, ap, ◌∙◌, subst, arith, true≢false}
 use Rattle.std.specs.Prelude.{IsSome, IsNone}
 use Rattle.bench_base.specs.Causes.{Rose}

@@ -1,4 +1,4 @@
--- That a bench with a desk has the lines of a clerk; and that what the bench did of it are the steps that were wanted.
+-- A bench with an extension has the lines of a line handler; and what the bench did of them are the steps that were asked for.
 use Rattle.std.proofs.Common.{◌≢◌, inl, inr, ℕ, List, [], ◌∷◌, ◌++◌, refl, sym, ap, subst}
 use Rattle.line_runs.specs.Trace.{FitsGrammar}
 use Rattle.line_runs.specs.Turns.{AreDone}

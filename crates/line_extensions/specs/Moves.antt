@@ -1,4 +1,4 @@
--- What is so of each move of a desk in a run: as it begins a line, goes on after a step, and sees an event.
+-- What is so of each move of an extension in a run: as it begins a line, goes on after a step, and sees an event.
 use Rattle.std.specs.Prelude.{List, [], ◌∷◌}
 use Rattle.node_turns.specs.declared.turn.Turn.{Turn}
 use Rattle.line_extensions.specs.Trace.{StepRecord, Skipped, Did}

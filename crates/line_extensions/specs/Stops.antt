@@ -1,4 +1,4 @@
--- What a run leaves of a desk's own storage: whether a commit failed and why, and what each image of the storage shows then.
+-- What a run leaves of an extension's own storage: whether a commit failed and why, and what each image of the storage shows then.
 use Rattle.std.specs.Prelude.{◌≡◌, ◌⊎◌, ◌↔◌, ℕ, Bool, true, false, List, [], ◌∷◌, Option, Some, None, IsSome}
 use Rattle.bench_base.specs.Causes.{Rose}
 use Rattle.nv_model.specs.Meters.{Meters, WasCut}
@@ -13,7 +13,7 @@ use Rattle.line_runs.specs.declared.status.SideStatus.{SideStatus}
 use Rattle.line_runs.specs.declared.status.SideStatus.TheVariants.{Stopped}
 use Rattle.line_extensions.specs.SideTrace.{SideStep, Plain, Own, Broken}
 
--- one of the lines is one at which a commit of the desk's failed
+-- a commit of the extension's failed at one of the lines
 abbrev pub HasBroken : {L : Type 0} → List (SideStep L) → Type 0
 HasBroken [] = ⊥
 HasBroken (Plain d ∷ rest) = HasBroken rest
@@ -30,7 +30,7 @@ abbrev pub with_commit : {R : Type 0} → Option (RowCommit R) → RowList R →
 with_commit None rows = rows
 with_commit (Some c) rows = put rows c.cell c.kept
 
--- a desk as contracts see it: whether a commit of it failed, its storage, and what is kept of each cell
+-- an extension as contracts see it: whether a commit of it failed, its storage, and what is kept of each cell
 pub record DeskView (N : Type 0) : Type 0 where
   pub failed : Bool
   pub storage : N

@@ -125,7 +125,7 @@ module _ (P : ℕ → ℕ → ℕ → Type 0) where
     torn = λ m d p n is. all.torn m (Accepted d p n) is;
   }
 
-  -- what an entry has to bring
+  -- what an entry has to provide
   abbrev pub Brings : Entry → Type 0
   Brings (e.Commit c) = Is c
   Brings (e.Torn m c) = Is c

@@ -1,4 +1,4 @@
--- What the plan of each event tells; and which plans accept a piece: those of scans, under the number of the scan.
+-- What the plan of each event records; and which plans accept a piece: those of scans, under the number of the scan.
 use Rattle.std.proofs.Common.{◌≡◌, ℕ, ℤ, pos, ◌+◌, Bool, true, false, List, [], ◌∷◌, Option, Some, None, Result, Ok, Err, inl, inr, refl, subst, length, drop}
 use Rattle.std.specs.Prelude.{is_some, nat_lt}
 use Rattle.bench_base.specs.declared.words.Node.{Node}
@@ -79,7 +79,7 @@ unsaid m refusal say act own = said_commit _ refusal say act own
 
 -- Plans at this ledger, where P is known of each acceptance and a print is of this job
 module _ (P : ℕ → ℕ → ℕ → Type 0) (H : Ledger) (job : Option ℕ) where
-  -- it tells no more than it may, and commits nothing of which P is not known
+  -- it records no more than it may, and P is known of all that it commits
   pub record Clean (p : Plan) : Type 0 where
     pub says : Says H job p.reply p.after
     pub commits : CommitBrings P p.commit
@@ -88,7 +88,7 @@ module _ (P : ℕ → ℕ → ℕ → Type 0) (H : Ledger) (job : Option ℕ) wh
   sure : {p : Plan} → CommitBrings P p.commit → is_clean p.reply p.after ≡ true → Clean p
   sure commits is = record { says = cleanly H job _ _ is; commits = commits }
 
-  -- an act whose answers are said, of a node whose commits are no acceptances
+  -- an act with answers of type `Said`, of a node that commits no acceptances
   said_ok : {X F A : Type 0} (m : Node) (refusal : F → Reply) (say : A → Said) (act : Act X F A) → ((c : Commit) → node_of c ≡ m → Is P c) → IsOfNode m act → ((x : F) → is_clean (refusal x) [] ≡ true) → ((a : A) → is_clean (say a).reply (tells (say a)) ≡ true)
       → Clean (said_plan (saying refusal say act))
   said_ok m refusal say (Refuse x) brings own refused done = sure tt (refused x)
@@ -278,7 +278,7 @@ module _ (P : ℕ → ℕ → ℕ → Type 0) (H : Ledger) (job : Option ℕ) wh
     unfolding plan
     plan_clean x text own may = chosen Clean (needs_day x) _ _ (λ needs. dated_ok x text (day_in H) own may) (λ free. event_ok x text (pos 0) own may)
 
--- entries of which none is a commit accept nothing
+-- entries without commits accept nothing
 none_brings : (P : ℕ → ℕ → ℕ → Type 0) (l : List Entry) → NoCommits l → AllBring P l
 none_brings P [] none = tt
 none_brings P (e.Commit c ∷ l) none = absurd none

@@ -1,4 +1,4 @@
--- How often a storage's failures are told: of one event, and of steps one after another.
+-- How often a storage's failures are reported: by one event, and by steps one after another.
 use Rattle.std.proofs.Common.{◌≡◌, ◌⊎◌, inl, inr, ℕ, ◌+◌, ◌-◌, ◌<◌, ◌≤◌, ◌^◌, List, [], ◌∷◌, length, get_or, Bool, true, false, Option, Some, None, refl, sym, ap, subst, arith}
 use Rattle.std.specs.Prelude.{IsSome, IsNone, slice_get}
 use Rattle.std.proofs.lemmas.Option.{slice_get-get_or, slice_get_within}
@@ -53,7 +53,7 @@ none_cut : (calls before now : ℕ) (f h : Option ℕ) → before ≤ now → Us
 none_cut calls before now f h le uses = let s = stays calls f h uses in omega arith
 
 module _ (d : Node) (e : Event) (reply : Reply) (was is : Meters) (c : Charged d e reply was is) where
-  -- a reply tells of no cut where it tells of a power failure
+  -- a reply reports no cut if it reports a power failure
   power_by : (p k : Bool) → tells_power d reply ≡ p → tells_cut d reply ≡ k → (p ≡ true → k ≡ false) → is.cuts < 2 ^ 64 - 1
       → was.cuts + (one_if p + armed is.fuse) ≤ is.cuts + (one_if k + armed was.fuse)
   power_by true true hp hk apart few = cc (apart refl)
@@ -65,7 +65,7 @@ module _ (d : Node) (e : Event) (reply : Reply) (was is : Meters) (c : Charged d
   fault_by true h few = let rose = c.fault h in omega (arith, rose, few)
   fault_by false h few = let rise = c.faults in omega (arith, rise)
 
--- no reply tells of both
+-- no reply reports both
 apart : (d : Node) (reply : Reply) → tells_power d reply ≡ true → tells_cut d reply ≡ false
 apart d (r.Power n) h = refl
 apart d (r.CutSet n) h = cc

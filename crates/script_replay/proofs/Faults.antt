@@ -1,4 +1,4 @@
--- What one event takes of the rates and prints, and how often the faults of both streams are told.
+-- What one event takes of the rates and prints, and how often the faults of both streams are reported.
 use Rattle.std.proofs.Common.{◌≡◌, ◌⊎◌, inl, inr, ℕ, ℤ, ◌+◌, ◌≤◌, List, [], take, Option, Some, None, Result, Ok, Err, true, refl, sym, ◌∙◌, ap, subst, arith}
 use Rattle.std.specs.Prelude.{slice_get, ◌↔◌}
 use Rattle.std.specs.Io.KnownBytes.{Consumes, Appends}

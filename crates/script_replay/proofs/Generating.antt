@@ -122,7 +122,7 @@ one_event column.Released = refl
 one_event column.Accepted = refl
 one_event column.Uncounted = refl
 
--- the tally tells how many replies there were
+-- the tally shows how many replies there were
 pub tally_events : (replies : List Reply) → (tally_of replies).events ≡ length replies
 tally_events [] = refl
 tally_events (reply ∷ rest) = let more = tally_events rest in let one = one_event (column_of reply) in omega (arith, more, one)
@@ -170,7 +170,7 @@ module _ (n : Nodes) where
       let printer : mid.outside.printer ≡ old.outside.printer = printer_rests old mid d did.1 each.0 in
       streams_rest mid new rest did.2 each.1 ∙ outside_same old.outside mid.outside rates printer
 
-  -- of a run of which nothing is to come
+  -- of a run with nothing to come
   pub all_rest : (seed count : ℕ) (to_come : List Event) (tally : Tally) (old new : SceneOf n) → InTheMidst (DidEvents n) seed count to_come tally old new → to_come ≡ []
       → AllByRecursion NeedsNoStream (generated seed count) → new.outside ≡ old.outside
   all_rest seed count to_come tally old new midst is each = streams_rest old new midst.done midst.did (all_of NeedsNoStream (events_of midst.done) to_come (subst (AllByRecursion NeedsNoStream) (sym midst.all) each))

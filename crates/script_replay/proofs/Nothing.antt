@@ -1,4 +1,4 @@
--- A run with a desk from nothing.
+-- A run with an extension from nothing.
 use Rattle.std.proofs.Common.{ℕ, List, []}
 use Rattle.bench.specs.Benches.{Nodes, Stands}
 use Rattle.ledger_moves.specs.Histories.{History}

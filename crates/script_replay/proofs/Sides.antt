@@ -1,4 +1,4 @@
--- What a run with a desk did, by what the desk and the bench did of its lines.
+-- What a run with an extension did, by what the extension and the bench did of its lines.
 use Rattle.std.proofs.Common.{◌≡◌, ℕ, List, [], ◌∷◌, Option, None, subst}
 use Rattle.bench_base.specs.declared.ledger.Entry.TheVariants.{Begin}
 use Rattle.bench_base.specs.Ledger.{Ledger}

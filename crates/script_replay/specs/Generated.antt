@@ -42,7 +42,7 @@ pub record InTheMidst {B : Type 0} (Does : B → B → List StepRecord → Type 
   pub did : Does old new done
   pub tally_is : tally ≡ tally_of (replies_of done)
 
--- All events of the run were done, none of which brings anything that is forged, and then the report took the summary of the replies.
+-- All events of the run were done, and none of them contains anything that is forged. Then the report took the summary of the replies.
 pub record Generated (outcome : Status) (seed count : ℕ) (WasDone : List StepRecord → Type 0) (taken0 taken1 : Option (List ℕ)) : Type 0 where
   pub done : List StepRecord
   pub all : events_of done ≡ generated seed count

@@ -60,11 +60,12 @@ Leaves (Run status.TooLong) behind now = now ≡ behind
 Leaves Stopped behind now = now ≡ behind
 
 module _ (n : Nodes) where
-  -- By a history for which the bench stood, with a run begun: each reply is one that its event may get there, and as long as
-  -- nothing from outside is forged the bench represents what the steps leave, which is lawful and paid for to the letter box, and no
-  -- reply is one that never comes where devices and centre are honest. A printer that tells what it took has the marks of the events. Where no storage and no
-  -- stream failed and no fuse was armed, each reply is the answer: of a node that comes on with an open commit one of its two, and
-  -- where no commit was open at the beginning the answer itself.
+  -- What holds by a history that the bench represented, with a run begun. Each reply is one that its event may get there. As long as
+  -- nothing from outside is forged, the bench represents what the steps leave, and no reply is one that is never given if devices and
+  -- centre are honest. What the steps leave is then lawful and paid for to the letter box. A printer that exposes what it took has the
+  -- marks of the events.
+  -- If no storage and no stream failed and no fuse was armed, each reply is the answer. A node that comes on with an open commit has two
+  -- answers, and the reply is one of them. If no commit was open at the beginning, the reply is the answer itself.
   pub record DidOver (τ : Tariff) (L : Ledger) (old new : SceneOf n) (trace : List StepRecord) : Type 0 where
     pub run : RunWhile τ Unforged (Moves τ) (Begin ∷ L) trace
     pub stands : AreUnforged τ Unforged (Begin ∷ L) trace → StandsFor n τ new.bench (ledger_after τ (Begin ∷ L) trace)
@@ -76,8 +77,8 @@ module _ (n : Nodes) where
     pub exact : AreUndisturbed n old new trace → NoneOpen L → RunWhile τ Unforged (IsTheAnswer τ) (Begin ∷ L) trace
 
 -- The bench began a run, without a day, messages and rates, and did the steps: each event by a step, whether or not a history
--- leads to what the storages show. The rates and the printer are as they took and printed in turn. By a history for which the bench
--- stood, it stands at each moment for what was done so far, and so does what a stop of the process leaves.
+-- leads to what the storages show. The rates and the printer are as they took and printed in turn. If the bench represented
+-- a history, it represents at each moment what was done so far, and what a stop of the process leaves represents that too.
 pub record DidRun (n : Nodes)
     (old new : SceneOf n) (outcome : Status) (trace : List StepRecord) : Type 0 where
   pub begun : BenchOf n

@@ -1,4 +1,4 @@
--- Steps of the bench, as a desk has them done.
+-- Steps of the bench, as an extension has them done.
 use Rattle.std.proofs.Common.{◌≡◌, inl, inr, ℕ, ◌+◌, ◌≤◌, List, [], ◌∷◌, ◌++◌, append-nil, length, refl, ◌∙◌, ap, subst, arith}
 use Rattle.bench_base.specs.declared.events.Event.{Event}
 use Rattle.bench_base.specs.declared.events.Event.TheVariants as ev
@@ -48,9 +48,8 @@ module _ (n : Nodes) where
 pub wants_none : {D C H V : Type 0} (s t : Scene D C H V) → Leaves (Run status.Memory) s t → length t.bench.messages ≤ length s.bench.messages
 wants_none s t wants = let same = ap (λ (b : Bench _ _ _ _). length b.messages) wants.0 in omega (arith, same)
 
--- what the end of a run with a desk leaves of the bench
-pub leaves_as : {D C H V K : Type 0} (outcome : SideStatus) (behind now : World (Scene D C H V) K)
-    → SideLeaves (λ s t. Leaves (Run status.Memory) s t) outcome behind now
+-- what the end of a run with an extension leaves of the bench
+pub leaves_as : {D C H V K : Type 0} (outcome : SideStatus) (behind now : World (Scene D C H V) K) → SideLeaves (λ s t. Leaves (Run status.Memory) s t) outcome behind now
     → (s : Status) × Leaves (Run s) behind.scene now.scene
 leaves_as (Run status.Done) behind now is = (status.Done, ap (λ (w : World _ _). w.scene) is)
 leaves_as (Run status.Words) behind now is = (status.Words, ap (λ (w : World _ _). w.scene) is)

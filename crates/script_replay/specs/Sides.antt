@@ -1,4 +1,4 @@
--- A run with a desk beside the bench: what was done, and how it ended.
+-- A run with an extension beside the bench: what was done, and how it ended.
 use Rattle.std.specs.Prelude.{◌≡◌, ◌↔◌, ◌≤◌, ℕ, List, [], ◌∷◌, IfSome}
 use Rattle.bench_base.specs.Causes.{Rose}
 use Rattle.node_turns.specs.declared.turn.Turn.{Turn}
@@ -18,12 +18,12 @@ use Rattle.script_replay.specs.Run.{DidRun, Leaves}
 use Rattle.script_replay.specs.Streams.{Streams}
 
 module _ (n : Nodes) where
-  -- this was done by a step of the bench, whose turn this is
+  -- this was done by a step of the bench with this turn
   abbrev pub StepsBy : SceneOf n → SceneOf n → StepRecord → Turn → Type 0
   StepsBy s t d turn = (did : DidEvent n s t d) × (did.turn ≡ turn)
 
   module _ {K T : Type 0} (k : Ghosts K T) where
-    -- The bench began a run, and desk and bench did the steps. What the bench did of them is what `run` says of a script that has the
+    -- The bench began a run, and extension and bench did the steps. What the bench did of them is what `run` says of a script that has the
     -- events in their place, of the bench that began so.
     pub record DidSide (old new : World (SceneOf n) K) (outcome : SideStatus) (trace : List (SideStep k.Own)) : Type 0 where
       pub begun : BenchOf n
@@ -50,7 +50,7 @@ pub record EndsSide {K T : Type 0} (k : Ghosts K T) (word : List ℕ) (outcome :
   pub read_later : before.read_faults ≤ now.read_faults
   pub write_later : before.write_faults ≤ now.write_faults
 
--- it comes to its end where no stream failed and no commit of the desk's storage
+-- it comes to its end where no stream failed and no commit of the extension's storage
 abbrev pub CompletesSide : {K T : Type 0} (k : Ghosts K T) (word : List ℕ) (outcome : SideStatus) (given : List (List ℕ)) (before now : Streams) → Type 0
 CompletesSide k word outcome given before now = given ≡ word ∷ [] → (Rose before.read_faults now.read_faults → ⊥)
     → (Rose before.write_faults now.write_faults → ⊥) → (outcome ≡ Stopped → ⊥)

@@ -32,7 +32,7 @@ streams s script k report outside =
 abbrev pub streams_of : {S K R P : Type 0} → source.Ghosts S → sink.Ghosts K → source.Ghosts R → sink.Ghosts P → S → K → R → P → Streams
 streams_of s k r p script report rates printer = streams s script k report (outside r rates p printer)
 
--- the words are none that the program knows
+-- the program does not know the words
 abbrev pub AreNone : List (List ℕ) → Type 0
 AreNone given = (w : Words) → AreInRange w → given ≢ program_words w
 
@@ -59,8 +59,8 @@ pub record EndsRun (outcome : Status) (given : List (List ℕ)) (before now : St
   pub read_later : before.read_faults ≤ now.read_faults
   pub write_later : before.write_faults ≤ now.write_faults
 
--- A run comes to its end, whatever the nodes, the printer and the rates answer, where no fault of the script or the report was
--- counted: a script that has an `end` behind lines that are each skipped or an event, and a generated run always.
+-- A run comes to its end, whatever the nodes, the printer and the rates answer, if no fault of the script or the report was
+-- counted. A script does so if it has an `end` after lines that are each skipped or an event, and a generated run always does.
 pub record Completes (outcome : Status) (given : List (List ℕ)) (before now : Streams) : Type 0 where
   pub script : given ≡ program_words Replay → (Rose before.read_faults now.read_faults → ⊥) → (Rose before.write_faults now.write_faults → ⊥)
       → IfSome before.left (λ bytes. (end : EndsAs script_grammar status.Done bytes) → IsComplete script_grammar (Run outcome) end.passed)

@@ -56,7 +56,7 @@ fn count_event<M: Fuse + Drop, N: Nv, R: Source, P: Sink>(
     );
     match told {
         Ok(reply) => summary.count(&reply),
-        // Only a `rates` wants memory, and none is generated.
+        // Only a `rates` can run out of memory, and none is generated.
         Err(_) => unreachable!(),
     }
 }

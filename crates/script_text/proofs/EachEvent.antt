@@ -1,5 +1,5 @@
--- Each event has its line: with which keyword it begins, that its bytes are above the space, so that a line is told by its words, and
--- that an event is told by them.
+-- Each event has its line: with which keyword it begins, that its bytes are above the space, so that its words determine a line,
+-- and that they determine an event.
 use Rattle.std.proofs.Common.{◌≡◌, ◌≢◌, ℕ, ℤ, ◌+◌, List, [], ◌∷◌, true, false, refl, sym, ap, ◌∙◌, subst, cond, codes, ◌<◌, arith, ◌++◌}
 use Rattle.bench_base.specs.declared.words.Kind.{Kind}
 use Rattle.bench_base.specs.declared.words.Node.{Node}

@@ -1,5 +1,5 @@
--- Each reply has its text: its bytes are above the space, so that it is one line and is told by its words; and the reply is told by it,
--- except for the number in a fault of a mark.
+-- Each reply has its text: its bytes are above the space, so that it is one line and its words determine it. The text determines the
+-- reply, except for the number in a fault of a mark.
 use Rattle.std.proofs.Common.{◌≡◌, ◌≢◌, ℕ, zero, suc, ℤ, ◌<◌, List, [], ◌∷◌, ◌++◌, true, false, Option, Some, None, refl, arith, codes, length, drop, cond, eqb, sym, ap, ◌∙◌}
 use Rattle.std.specs.List.{All, AllByRecursion}
 use Rattle.bench_base.specs.declared.words.Phase.{Phase}

@@ -1,4 +1,4 @@
--- Words behind a keyword that no event has.
+-- Words after a keyword that no event has.
 use Rattle.std.proofs.Common.{◌≡◌, ◌≢◌, ℕ, ◌≤◌, ◌<◌, ◌^◌, List, [], ◌∷◌, get_or, Result, Ok, Err, refl, sym, ap, subst, ◌∙◌, arith, inl, inr, ◌⊎◌, decimal, codes}
 use Rattle.std.specs.Prelude.{IfOk, OnErr}
 use Rattle.std.specs.Result.{IsErr}
@@ -87,6 +87,6 @@ no_scan ws msg hex = no_event kw.Scan ws (
   (λ n g whole are. hex n (record {}) g whole.1 tt whole.2 (behind _ _ _ _ are)),
 )
 
--- words behind a word that stands alone
+-- words after a word that is a line alone
 pub not_alone : (word line : List ℕ) → word ∷ words_in line ≡ word ∷ [] → ⊥
 not_alone word line are = subst HasFirst (behind word word (words_in line) [] are) (words_in_some line)

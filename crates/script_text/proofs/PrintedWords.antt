@@ -185,7 +185,7 @@ flight_printed (Some flight) h = (kind flight.0, (number flight.1 h, tt))
 
 -- == refusals ==
 
--- the bytes of the words that stand in each text are above the space
+-- the bytes of the words in each text are above the space
 abbrev are_plain : List Part → Bool
 are_plain [] = true
 are_plain (said w ∷ parts) = is_printed w && are_plain parts

@@ -1,4 +1,4 @@
--- A refusal is told by its words.
+-- The words of a refusal determine it.
 use Rattle.std.proofs.Common.{◌≡◌, ℕ, List, cond, refl, ap, arith, codes}
 use Rattle.bench_base.specs.declared.words.Phase.{Phase}
 use Rattle.bench_base.specs.declared.words.Phase.TheVariants as phase

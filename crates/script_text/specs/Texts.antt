@@ -175,11 +175,11 @@ abbrev pub told_refusal : ScanRefusal → ScanRefusal
 told_refusal (scan.Unread fault) = scan.Unread (told_fault fault)
 told_refusal r = r
 
--- the reply of this report, if its text tells less than it has: the number in a fault of a mark
+-- the reply of this report, if its text shows less than it has: the number in a fault of a mark
 abbrev pub told_as : Report → Reply → Reply
 told_as (report.Refusal (OfVerifier r)) x = reply.ScanRefused (told_refusal r)
 told_as _ x = x
 
--- the reply as far as its text tells it
+-- the reply as far as its text shows it
 abbrev pub told : Reply → Reply
 told x = told_as (report_of x) x

@@ -1,4 +1,4 @@
-//! The lines of a script by their keywords: each reads the words behind the keyword.
+//! The lines of a script by their keywords: each reads the words after the keyword.
 ghost use Rattle.std.specs.Prelude.{◌≡◌, ℕ, [], ◌∷◌, ◌⊎◌, Ok, IfOk, OnErr};
 ghost use Rattle.bench_base.specs.Ranges.{IsDevice};
 ghost use Rattle.bench_base.specs.declared.words.Kind.{Kind};

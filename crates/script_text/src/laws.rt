@@ -21,7 +21,7 @@ pub fn no_event_skipped()
     ensures law { (e : Event) (line : List ℕ) → Spells e line → IsSkipped line → ⊥ }
 {}
 
-/// A text is that of at most one whole reply, except for the number in a fault of a mark, which it doesn't tell.
+/// A text is that of at most one whole reply, except for the number in a fault of a mark, which it doesn't show.
 pub fn one_reply()
     ensures law { (r s : Reply) → IsWholeReply r → IsWholeReply s → text_of r ≡ text_of s → told r ≡ told s }
 {}

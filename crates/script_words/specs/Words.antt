@@ -21,7 +21,7 @@ abbrev pub longer : ℕ → List (List ℕ) → List (List ℕ)
 longer c [] = []
 longer c (w ∷ ws) = (c ∷ w) ∷ ws
 
--- the words of a line: what stands before, between and behind its spaces
+-- the words of a line: what is before, between and after its spaces
 unfoldable pub words_in : List ℕ → List (List ℕ)
 words_in [] = [] ∷ []
 words_in (c ∷ line) = if c == 32 then [] ∷ words_in line else longer c (words_in line)

@@ -1,4 +1,4 @@
--- In the order in which the host makes its commits a job of a device is open if and only if its state is Ordered.
+-- If the commits are in the host's order, a job of a device is open if and only if its state is Ordered.
 use Rattle.std.proofs.Common.{◌≡◌, ℕ, ◌≤◌, true, false, List, [], ◌∷◌, Option, Some, None, refl, sym, subst, ◌∙◌, arith}
 use Rattle.std.specs.Prelude.{◌==◌}
 use Rattle.std.proofs.lemmas.Bool.{eqb-true, eqb-false, eq-eqb, ne_eqb}

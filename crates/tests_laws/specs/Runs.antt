@@ -38,7 +38,7 @@ pub one_price_bounds : (known : Bool) (postage : ℕ) → one_price known ≡ Ok
 one_price_bounds true postage h = subst (λ n. (1 ≤ n) × (n ≤ 100000)) (ap price_in h) (lit≤ tt, lit≤ tt)
 one_price_bounds false postage h = absurd (true≢false (sym (ap is_price h)))
 
--- a tariff of two classes and two zones, of which one price is known: class 1, up to 28 grams, zone 1
+-- a tariff of two classes and two zones, with one price that is known: class 1, up to 28 grams, zone 1
 abbrev pub sample : Tariff
 sample = record {
   reading = λ text. Ok (2, 2);

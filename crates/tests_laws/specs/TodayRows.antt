@@ -1,4 +1,4 @@
--- A worked row of today's edition, to the byte. It goes on after a ledger of the first one. The bytes were made by another program.
+-- A golden test of today's version of the rules, to the byte. It goes on after a ledger of the first one. The bytes were made by another program.
 use Rattle.std.specs.Prelude.{ℕ, pos, false, List, [], ◌∷◌, None}
 use Rattle.bench_base.specs.declared.words.Kind.TheVariants.{Reset, Audit}
 use Rattle.bench_base.specs.declared.words.Verdict.TheVariants.{Granted}

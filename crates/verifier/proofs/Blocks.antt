@@ -32,7 +32,7 @@ own_block d b = rw (eq-eqb d d refl, eq-eqb b b refl) refl
 
 -- == places ==
 
--- what stands at the head of a list is the newest
+-- the head of a list is the newest
 newest : (x : ℕ × ℕ) (xs : List (ℕ × ℕ)) → block_at (length xs) (x ∷ xs) ≡ Some x
 newest x xs = ap (λ t. if t then Some x else block_at (length xs) xs) (eq-eqb (length xs) (length xs) refl)
 
@@ -53,7 +53,7 @@ within_all (x ∷ xs) i lt = elim (cases_eq i (length xs)) [
   | inr differs ↦ ap is_some (older_at x xs i differs) ∙ within_all xs i (omega (arith, differs))
 ]
 
--- a block that has a place stands there
+-- a block that has a place is found there
 pub place_at : (xs : List (ℕ × ℕ)) (d b i : ℕ) → block_place d b xs ≡ Some i → (i < length xs) × (block_at i xs ≡ Some (d, b))
 place_at [] d b i is = absurd (some_none (sym is))
 place_at (x ∷ xs) d b i is = elim (cases_Bool (same_block x d b)) [

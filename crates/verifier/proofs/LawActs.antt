@@ -117,7 +117,7 @@ leaves s sound = record {
 
 -- == the rows of commits ==
 
--- at the start there are none
+-- at the start each cell is blank
 pub no_cell : (k : ℕ) → cell_after k [] ≡ None
 no_cell k = by (nat_lt k FIRST_BLOCK)
   where

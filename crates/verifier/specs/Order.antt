@@ -1,4 +1,4 @@
--- The order in which the verifier's commits come, the newest first.
+-- The order of the verifier's commits, the newest first.
 use Rattle.std.specs.Prelude.{◌≡◌, ◌≤◌, List, [], ◌∷◌, length, None, IsSome}
 use Rattle.bench_base.specs.declared.ledger.Commit.{Commit}
 use Rattle.bench_base.specs.declared.ledger.Commit.TheVariants.{Trusted, Accepted}

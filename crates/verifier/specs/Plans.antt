@@ -14,7 +14,7 @@ use Rattle.verifier.specs.declared.acts.Change.{Change}
 use Rattle.verifier.specs.declared.acts.Spot.{Spot}
 use Rattle.verifier.specs.Acts.{ScanAct, LookUps, trust_by, scan_by}
 
--- == what is told ==
+-- == what is reported ==
 
 -- an act, by how it says what it answers
 abbrev pub says : {A : Type 0} → (A → Said) → ScanAct A → Act Change Reply Said

@@ -10,7 +10,7 @@ use Rattle.verifier.specs.Order.{InOrder, IsRoomy}
 use Rattle.verifier.specs.Rows.{Row, TrustRow, BlockRow}
 use Rattle.verifier.specs.Seen.{Seen}
 
--- the block in a place of a list of them whose newest comes first, counted from the oldest
+-- the block in a place of a list of blocks, the newest first; places are counted from the oldest
 abbrev pub block_at : ℕ → List (ℕ × ℕ) → Option (ℕ × ℕ)
 block_at i [] = None
 block_at i (x ∷ xs) = if length xs == i then Some x else block_at i xs

@@ -40,7 +40,7 @@ holds d b None = false
 holds d b (Some (TrustRow e key)) = false
 holds d b (Some (BlockRow e n scans)) = (e == d) && (n == b)
 
--- == what the rows tell ==
+-- == what the rows show ==
 
 -- the row of a cell
 abbrev pub row_in : Seen → ℕ → Option Row

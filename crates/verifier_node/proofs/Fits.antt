@@ -1,4 +1,4 @@
--- That the rows are sound, and can take what the calls of the verifier commit.
+-- The rows are sound, and can take what the calls of the verifier commit.
 use Rattle.std.proofs.Common.{◌≡◌, ◌∙◌, sym, subst}
 use Rattle.bench_base.specs.declared.ledger.Commit.{Commit}
 use Rattle.nv_model.specs.declared.nv.Nv.{Ghosts}

@@ -18,7 +18,7 @@ use nv_model::Nv;
 use row_node::RowNode;
 use verifier::{Accepted, ScanAct, Spot, scan_act, trust_act};
 
-// Where a piece of a device is looked up, by one search.
+// The spot where a piece of a device is looked up, by one search.
 fn spot<N: Nv>(node: &RowNode<N, VerifierRows>, device: u32, piece: u32) -> Spot
     ensures { result ≡ spot_in (seen_in node.now) device piece }
 {

@@ -19,8 +19,8 @@ pub struct VerifierRows {
 /// Memory for the 1,032 cells of the verifier, and for what it keeps of them.
 pub type VerifierRoom = RowRoom<VerifierRows>;
 
-/// The verifier over storage of 4,253,904 bytes: a cell of two slots for each device and each block, whose payload is its
-/// row. While it is off, what it knew of its storage counts for nothing.
+/// The verifier over storage of 4,253,904 bytes: a cell of two slots for each device and each block, with its row as
+/// payload. While it is off, what it knew of its storage counts for nothing.
 pub type VerifierNode<N> = RowNode<N, VerifierRows>;
 
 impl VerifierRows {
