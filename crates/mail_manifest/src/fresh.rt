@@ -17,7 +17,7 @@ use script_replay::status::SideStatus;
 use std::alloc::Global;
 use text_streams::BufSource;
 
-// The run over a bench on which nothing was done.
+// The run over a bench that has done nothing.
 fn run_over<S: BufSource, K: Sink>(
     alloc: Global,
     words: &[String],

@@ -33,7 +33,7 @@ fn fresh_desk(alloc: Global) -> Option<Desk<MemNv>>
     }
 }
 
-// The run over a bench on which nothing was done.
+// The run over a bench that has done nothing.
 fn run_over<S: BufSource, K: Sink>(
     alloc: Global,
     words: &[String],
