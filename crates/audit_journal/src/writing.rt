@@ -30,7 +30,7 @@ pub struct Journal {
     form: Form,
     kept: Vec<u8>,
     has_rows: bool,
-    /// Of each node the date of its last transaction.
+    /// For each node, the date of its last transaction.
     dates: [Option<DayNo>; 11],
 }
 

@@ -12,7 +12,7 @@ pub struct Job {
     pub class: u16,
     pub postage: u64,
     pub state: JobState,
-    /// The day on which it came so far.
+    /// The day when it came so far.
     pub day: Option<DayNo>,
     pub printed: bool,
 }
@@ -27,7 +27,7 @@ impl Job {
     }
 }
 
-/// All jobs that were ordered, the first of which is job 1.
+/// All jobs that were ordered, from job 1 on.
 #[derive(Drop)]
 pub struct Jobs {
     rows: Vec<Job>,
@@ -46,7 +46,7 @@ impl Jobs {
         }
     }
 
-    /// The jobs, the first of which is job 1.
+    /// The jobs, from job 1 on.
     pub fn as_slice(&self) -> &[Job] {
         self.rows.as_slice()
     }
@@ -82,7 +82,7 @@ impl Jobs {
         Ok(())
     }
 
-    /// Keeps how far the job came, and on which day.
+    /// Keeps how far the job came, and its day.
     pub fn come(&mut self, job: u32, state: JobState, day: Option<DayNo>) {
         let Some(at) = place(job) else {
             return;

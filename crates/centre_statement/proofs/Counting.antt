@@ -252,7 +252,7 @@ one_count c C own = cond-true (same_node (node_of c) Centre) (count_of Centre C 
 apart_by_one : (k n : ℕ) → k ≡ n → k ≢ n + 1
 apart_by_one k n is more = omega (arith, is, more)
 
--- the count that it shows is that of the ledger behind it
+-- the count that it shows is that of the ledger after it
 shown_is : (k : ℕ) (C : List Commit) (t : Option Commit) → ((c : Commit) → t ≡ Some c → node_of c ≡ Centre) → (k ≡ count_of Centre C) ⊎ ((k ≡ count_of Centre C + 1) × IsSome t)
     → k ≡ count_of Centre (at_up t Centre k C)
 shown_is k C None own (inl is) = is
@@ -287,7 +287,7 @@ settles o current k C None commits same sound l = subst (λ (x : Option Commit).
 settles o current k C (Some c) commits same sound l =
     subst (λ (b : Bool). Lists o (noted (if b then Some c else None) current) (at_up (Some c) Centre k C)) (sym same) (lists_if o current c C (k == count_of Centre C + 1) sound l)
 
--- where no statement is open there is none behind it
+-- if no statement is open, none is open after it
 none_open : (current : Option Opened) (x : Option Commit) (C D : List Commit) → Lists None current C → Lists None (noted x current) D
 none_open None None C D l = l
 none_open None (Some c) C D l = l

@@ -61,7 +61,7 @@ use Rattle.line_extensions.proofs.Wanting.{step_event, ends_at}
 abbrev pub texts_in : View → List (List ℕ)
 texts_in v = said_texts v.said v.listed
 
--- == a balance is told ==
+-- == a balance is reported ==
 
 one_balance : (w a b : ℕ) → r.Balance w a ≡ r.Balance w b → a ≡ b
 one_balance w a b is = cc
@@ -114,7 +114,7 @@ closes o v t H s reply here with_it told did = by told did
     b : ℕ
     b = balance o.customer (counted H)
 
-    -- nothing is open behind it
+    -- nothing is open after it
     none_open : (full : Bool) (kept : List Movement) → GoesWith None (course.closed_with full kept closed b) H
     none_open true kept = (λ h. with_it.0 (inr refl), tt)
     none_open false kept = (λ h. with_it.0 (inr refl), tt)
@@ -163,7 +163,7 @@ no_stop : Stop ≡ Say → ⊥
 no_stop is = cc
 
 module _ (n : Nodes) where
-  -- what is wanted last, where it is no step
+  -- the last request, if it is no step
   ended : (old new : ItsWorld n) (next last : Next) (steps : List StepRecord) → next ≡ Say → Asks statements_desk (StepsBy n) old new next steps last → (steps ≡ []) × (last ≡ Say) × (new ≡ old)
   ended old new next last steps say asks = let end = ends_at statements_desk (StepsBy n) old new next steps last asks (inl say) in (end.0, end.1 ∙ say, end.2)
 
@@ -380,7 +380,7 @@ module _ (n : Nodes) (τ : Tariff) (laws : Laws) (read_as : IsOfTexts τ) (tells
       )
   all_stated o old new (Broken line own steps ∷ rest) H reads did s u with_it = absurd (goes_on n own old did.0 steps did.1)
 
--- a desk that has seen nothing goes with a ledger at which a run begins
+-- a desk that has seen nothing goes with a ledger at the begin of a run
 pub starts_with : (v : View) (L : Ledger) → v ≡ fresh → GoesWith None v (Begin ∷ L)
 starts_with v L is = subst (λ (x : View). GoesWith None x (Begin ∷ L)) (sym is) (
   λ h. elim h [

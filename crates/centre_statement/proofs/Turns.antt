@@ -28,7 +28,7 @@ calm_counts (e.Commit c) H calm = absurd calm
 calm_counts (e.Up m k) H calm = absurd calm
 calm_counts _ H calm = refl
 
--- what is told calmly after a commit
+-- the calm entries after a commit
 calm_turn : (o : Option OpenedAt) (v : View) (H : Ledger) (told : List Entry) (commit : Option Commit) → AreCalm told → Sound (counted (told ++ with_commit commit H)) → GoesWith o v H
     → GoesWith o (seen v (in_order (told ++ with_commit commit []))) (told ++ with_commit commit H)
 calm_turn o v H [] None calm sound with_it = with_it

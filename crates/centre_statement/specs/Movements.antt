@@ -27,8 +27,8 @@ abbrev pub movement_of : Option Change → ℕ → List Movement
 movement_of None after = []
 movement_of (Some x) after = (record { cause = x.cause; amount = x.amount; balance = after }) ∷ []
 
--- the movements of the customer's money among the commits that were counted after those of C, each with the centre's balance after its commit. Of the
--- commits the newest comes first, of the movements the first.
+-- the movements of the customer's money among the commits that were counted after those of C, each with the centre's balance after its commit. The
+-- commits are listed newest first, the movements oldest first.
 abbrev pub movements : ℕ → List Commit → List Commit → List Movement
 movements w [] C = []
 movements w (c ∷ since) C = movements w since C ++ movement_of (change_in c w) (balance w (c ∷ (since ++ C)))
@@ -46,7 +46,7 @@ pub record AsksBalance (w : ℕ) (steps : List StepRecord) : Type 0 where
   pub only : steps ≡ step ∷ []
   pub event : step.event ≡ ev.Balance w
 
--- the reply tells no balance of the customer, and is the answer
+-- the reply has no balance of the customer, and is the answer
 pub record IsRefused (w : ℕ) (reply : Reply) (texts : List (List ℕ)) : Type 0 where
   pub other : (b : ℕ) → reply ≢ r.Balance w b
   pub texts_are : texts ≡ text_of reply ∷ []
@@ -79,7 +79,7 @@ IsStated Close None C steps texts now = (steps ≡ []) × (texts ≡ codes "refu
 IsStated Close (Some o) C steps texts now =
     (asks : AsksBalance o.customer steps) × (TellsMovements o C asks.step.reply texts now ⊎ (IsRefused o.customer asks.step.reply texts × (now ≡ Some o)))
 
--- so is each own line of a run from this ledger on, in turn; no line breaks off
+-- each own line of a run from this ledger on is stated, in turn; no line breaks off
 abbrev pub AreStated : Tariff → Option OpenedAt → Ledger → List (SideStep OwnLine) → Type 0
 AreStated τ o H [] = Unit {0}
 AreStated τ o H (Plain d ∷ rest) = AreStated τ o (ledger_after τ H (done_in (d ∷ []))) rest

@@ -9,7 +9,7 @@ use Rattle.centre_statement.specs.OwnLines.{IsOwnLine}
 use Rattle.centre_statement.specs.declared.lines.OwnLine.{OwnLine}
 use Rattle.centre_statement.specs.declared.lines.OwnLine.TheVariants.{Open, Close}
 
--- a line whose first word is `statement`
+-- a line with `statement` as its first word
 first_alone : (rest : List (List ℕ)) (line : List ℕ) → words_in line ≡ codes "statement" ∷ rest → IsAlone line
 first_alone rest line words =
     let is : line ≡ joined (codes "statement" ∷ rest) = sym (joined_words_in line) ∙ ap (λ (ws : List (List ℕ)). joined ws) words in

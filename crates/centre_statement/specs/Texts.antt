@@ -11,7 +11,7 @@ use Rattle.centre_statement.specs.declared.answer.Answer.TheVariants as answers
 abbrev pub closed_texts : List Movement → ℕ → List (List ℕ)
 closed_texts movements b = map (λ m. line_text (Moved m)) movements ++ line_text (Closing b) ∷ []
 
--- the texts of an answer, with these movements: there is none while a balance is awaited
+-- the texts of an answer, with these movements: no text while a balance is awaited
 abbrev pub said_texts : Answer → List Movement → List (List ℕ)
 said_texts answers.Nothing movements = []
 said_texts (answers.Opening w) movements = []

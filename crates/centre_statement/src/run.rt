@@ -22,8 +22,8 @@ use script_replay::status::SideStatus;
 use std::alloc::Global;
 use text_streams::BufSource;
 
-/// Does a script whose lines are events of the bench or open and close statements, where the words are `statement` alone. A statement lists each movement of
-/// one customer's money that was counted while it was open, with the balance after it.
+/// Runs a script of events of the bench and of lines that open and close statements, if the words are `statement` alone. A statement lists each
+/// movement of one customer's money that was counted while it was open, with the balance after it.
 pub fn run_statement<S: BufSource, R: Source, K: Sink, P: Sink, N: Nv + Drop>(
     alloc: Global,
     words: &[String],
@@ -66,7 +66,7 @@ pub fn run_statement<S: BufSource, R: Source, K: Sink, P: Sink, N: Nv + Drop>(
     )
 }
 
-// The run over a bench on which nothing was done.
+// The run over an unused bench.
 fn run_over<S: BufSource, K: Sink>(
     alloc: Global,
     words: &[String],

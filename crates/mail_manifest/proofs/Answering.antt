@@ -27,7 +27,7 @@ use Rattle.mail_manifest.specs.declared.answer.Answer.TheVariants as answers
 use Rattle.mail_manifest.proofs.Judging.{either_by, either_any, yes_is_good}
 use Rattle.line_extensions.proofs.Wanting.{IsSay, step_event, ends_at}
 
--- what is wanted, by its kind
+-- the next request, by its kind
 abbrev IsStop : Next → Type 0
 IsStop (Step e) = ⊥
 IsStop Say = ⊥

@@ -1,4 +1,4 @@
--- A manifest whose check was answered yes holds by the ledger.
+-- A manifest holds by the ledger if its check was answered yes.
 use Rattle.std.proofs.Common.{◌≡◌, inl, inr, ℕ, ◌+◌, ◌-◌, ◌<◌, ◌≤◌, List, [], ◌∷◌, ◌++◌, length, Option, Some, None, Result, refl, sym, ap, ◌∙◌, subst, arith}
 use Rattle.std.specs.Prelude.{Contains, unwrap_or}
 use Rattle.std.proofs.lemmas.Bool.{cases_eq}
@@ -92,7 +92,7 @@ module _ (today : Editions editions) (τ : Tariff) (H : Ledger) (history : Histo
             (subst (λ (q : ℕ). Contains (counted H) (Accepted is.mark.device q k)) (sym piece) (subst (λ (e : ℕ). Contains (counted H) (Accepted e p k)) (sym device) within)),
       )
 
-  -- a manifest whose pieces are mail, each under its own number
+  -- a manifest with pieces that are mail, each under its own number
   module _ (m : Listing) (mail : (at : ℕ) → at < length m.marks → IsMail (m.opening.first + at) (mark_at m at) H) where
     differ : (d p i j : ℕ) → i < length m.marks → j < length m.marks → IsOfPiece d p (mark_at m i) → IsOfPiece d p (mark_at m j) → i ≡ j
     differ d p i j first second of of' =
@@ -115,7 +115,7 @@ split_answers m (Broken line own steps ∷ a) rest after answers = absurd answer
 
 module _ (today : Editions editions) (τ : Tariff) (H : Ledger) where
   module _ (all : List StepRecord) (did : AllMoved τ H all) (history : History τ editions (ledger_after τ H all)) where
-    -- a good manifest holds by the ledger behind its scans and whatever was done else
+    -- a good manifest holds by the ledger after its scans and all other steps
     good_holds : (m : Listing) (code : List ℕ) (steps : List StepRecord) → ((d : StepRecord) → Contains steps d → Contains all d) → IsGood m code steps → ManifestHolds m (ledger_after τ H all)
     good_holds m code steps among good =
         let mail = λ (at : ℕ) (lt : at < length m.marks).

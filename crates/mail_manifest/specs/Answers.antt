@@ -18,8 +18,8 @@ pub record IsTold (answer : List ℕ) (left : Option Listing) (steps : List Step
   pub texts_are : texts ≡ answer ∷ []
   pub leaves : after ≡ left
 
--- The pieces from this number on were scanned in order, each under its own number. The first that was not accepted ended it, with its text;
--- where there was none the manifest is good.
+-- The pieces from this number on were scanned in order, each under its own number. The first that was not accepted ended it, with its text; if every
+-- piece was accepted the manifest is good.
 abbrev pub AreScanned : Listing → ℕ → List StepRecord → List (List ℕ) → Type 0
 AreScanned m number [] texts = ⊥
 AreScanned m number (d ∷ rest) texts =
@@ -72,7 +72,7 @@ abbrev pub IsAnswered : Option Listing → ManifestLine → List StepRecord → 
 IsAnswered (Some m) own steps texts after = IsAnsweredOn m own steps texts after
 IsAnswered None own steps texts after = IsAnsweredBare own steps texts after
 
--- each line in turn; one that is left to the bench is none about the manifest, and no line is broken off
+-- each line in turn; a line that is left to the bench is not about the manifest, and no line is broken off
 abbrev pub AreAnswered : Option Listing → List (SideStep ManifestLine) → Option Listing → Type 0
 AreAnswered m [] after = after ≡ m
 AreAnswered m (Plain (Skipped line) ∷ rest) after = AreAnswered m rest after

@@ -80,7 +80,7 @@ Begins old own next new = BeginsWith (listing_of old) own next new
 
 -- == after a scan ==
 
--- the next piece is scanned where this one was accepted; behind the last one the manifest is good
+-- if this piece was accepted the next one is scanned; after the last one the manifest is good
 abbrev pub GoesBy : Listing → ℕ → Reply → Next → Checker → Type 0
 GoesBy m number reply next new =
     (IsAccepted reply × Either (number == length m.marks) (Answers (yes_of m) (Some m) next new) (Scans m (number + 1) next new))

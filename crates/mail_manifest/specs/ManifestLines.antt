@@ -23,7 +23,7 @@ IsInRange (Check code) = IsKey code
 abbrev pub open_words : Opening → List (List ℕ)
 open_words o = decimal o.first ∷ decimal o.count ∷ decimal o.total ∷ hex_word o.key ∷ []
 
--- its words behind `manifest`
+-- its words after `manifest`
 abbrev pub line_words : ManifestLine → List (List ℕ)
 line_words (Open o) = codes "open" ∷ open_words o
 line_words (Piece mark) = codes "piece" ∷ hex_word mark ∷ []

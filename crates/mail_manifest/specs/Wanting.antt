@@ -1,4 +1,4 @@
--- Where memory may be wanting.
+-- The lines that may run out of memory.
 use Rattle.mail_manifest.specs.declared.opening.ManifestLine.{ManifestLine}
 use Rattle.mail_manifest.specs.declared.opening.ManifestLine.TheVariants.{Open, Piece, Code, Check}
 

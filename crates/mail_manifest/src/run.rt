@@ -22,9 +22,9 @@ use script_replay::status::SideStatus;
 use std::alloc::Global;
 use text_streams::BufSource;
 
-/// Does a script whose lines are events of the bench or about a manifest, where the words are `manifest` alone. A manifest is good exactly
-/// where it is complete, has its code and its total, and every piece on it was accepted by a scan of its mark. By the ledger these pieces are
-/// accepted under the manifest's numbers and no others, and its total is what was debited. There is no manifest at first.
+/// Runs a script of events of the bench and of lines about a manifest, if the words are `manifest` alone. A manifest is good if and only if it is
+/// complete, has its code and its total, and every piece on it was accepted by a scan of its mark. By the ledger these pieces are accepted under the
+/// manifest's numbers and no others, and its total is what was debited. There is no manifest at first.
 pub fn run_manifest<S: BufSource, R: Source, K: Sink, P: Sink, N: Nv + Drop>(
     alloc: Global,
     words: &[String],
@@ -64,7 +64,7 @@ pub fn run_manifest<S: BufSource, R: Source, K: Sink, P: Sink, N: Nv + Drop>(
     )
 }
 
-// The run over a bench on which nothing was done.
+// The run over an unused bench.
 fn run_over<S: BufSource, K: Sink>(
     alloc: Global,
     words: &[String],

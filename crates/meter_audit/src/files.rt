@@ -50,7 +50,7 @@ fn irregular(rt: &HostRuntime, file: &str) -> Fault {
     }
 }
 
-// What is said of a file at which this failed.
+// What is said of a file that failed so.
 fn fault_at(rt: &HostRuntime, file: &str, error: &io::Error) -> Fault {
     match error.kind() {
         io::ErrorKind::OutOfMemory => Fault::Memory,
@@ -138,7 +138,7 @@ pub fn rates_in(rt: &HostRuntime, file: &str) -> Result<Vec<u8>, Fault> {
     all_rates(rt, file, opened)
 }
 
-// The rates of a run by its own file. That it is missing is mentioned on standard error, which may take no line.
+// The rates of a run by its own file. A missing file is mentioned on standard error, which may take no line.
 fn own_rates(rt: &HostRuntime, name: &str) -> Result<Vec<u8>, Fault> {
     let file = joined(rt, name, ".rates")?;
     match File::open(rt, file.as_str()) {

@@ -108,7 +108,7 @@ module _ {N : Type 0} {g : nv.Ghosts N} where
         let end = ends_at (claims_desk g) Steps m new more rest Say asks (inr next) in
         absurd (no_say more next end.1)
 
-    -- a claim whose scan is awaited is kept under its number
+    -- if the scan of a claim is awaited, the claim is kept under its number
     is_here : (desk : Desk N g) (x : ClaimRow) → said_of desk ≡ answers.Scanning x.claim → kept (rows_of desk) x.claim ≡ Some x → IsHere (rows_of desk) x
     is_here desk x waits here = record { first = (subst (λ (s : Answer). IsWaiting (rows_of desk) s) waits desk.waits).0; here = here }
 

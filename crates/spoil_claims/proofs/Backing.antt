@@ -97,7 +97,7 @@ opened rows x H none is_open lt b = record {
 from_1 : (c e : ℕ) → 1 ≤ c → 1 ≤ e → c - 1 ≡ e - 1 → c ≡ e
 from_1 c e first second same = omega (arith, first, second, same)
 
--- a claim whose piece was used up is committed as credited
+-- a claim with a piece that was used up is committed as credited
 credited_now : (rows : Claims) (x : ClaimRow) (k : Mark) (H : Ledger) → IsHere rows x → mark_of x.mark ≡ Some k → IsUsedUp x.claim x k H → AreBacked rows H → AreBacked (put rows (x.claim - 1) (as_credited x)) H
 credited_now rows x k H here reads used b =
     let lt = inside rows x here in

@@ -1,4 +1,4 @@
--- Blank storage shows no claim, and claims of which there is none are backed by what was accepted before.
+-- Blank storage shows no claim, and an empty list of claims is backed by what was accepted before.
 use Rattle.std.proofs.Common.{◌≡◌, ℕ, ◌-◌, ◌<◌, ◌≤◌, List, [], length, replicate, None, sym, ap, ◌∙◌, subst, arith}
 use Rattle.bench_base.specs.Ledger.{Ledger}
 use Rattle.bench_base.proofs.Facts.{some_none}

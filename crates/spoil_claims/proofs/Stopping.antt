@@ -62,7 +62,7 @@ either_any false f h either = h either
 
 -- == a commit that failed ==
 
--- it was of a new claim as open, or of one as credited whose scan was accepted
+-- it was of a new claim as open, or of one as credited after its scan was accepted
 abbrev pub IsCut : ClaimRow → Claims → List StepRecord → Type 0
 IsCut x rows steps = ((kept rows x.claim ≡ None) × (x.credited ≡ false)) ⊎ ((y : ClaimRow) × (x ≡ as_credited y) × IsCutCredit y rows steps)
 

@@ -83,13 +83,13 @@ module _ {N : Type 0} {g : Ghosts N} where
     pub is : mark_of x.mark ≡ Some mark
     pub says : Says (answers.Credited c mark true) old next new
 
-  -- a claim whose number is kept
+  -- a claim with a number that is kept
   abbrev pub Known : ℕ → ℕ → List ℕ → ClaimRow → Desk N g → Next → Desk N g → Type 0
   Known c w mark x old next new =
       (IsSame w mark x × Either x.credited (Repeats c x old next new) (Scans x old next new))
       ⊎ ((IsSame w mark x → ⊥) × Says answers.Conflict old next new)
 
-  -- one whose number is not
+  -- one with a number that is not kept
   abbrev pub Unknown : ℕ → ℕ → List ℕ → Desk N g → Next → Desk N g → Type 0
   Unknown c w mark old next new =
       Either (c == last_claim (rows_of old) + 1)

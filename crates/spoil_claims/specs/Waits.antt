@@ -15,7 +15,7 @@ pub record IsStored (rows : Claims) (x : ClaimRow) : Type 0 where
   pub fits : IsFit (x.claim - 1) x
   pub here : kept rows x.claim ≡ Some x
 
--- a claim whose scan is awaited is kept
+-- if the scan of a claim is awaited, the claim is kept
 abbrev pub IsWaiting : Claims → Answer → Type 0
 IsWaiting rows (answers.Scanning c) = (1 ≤ c) × IsSome (kept rows c)
 IsWaiting rows _ = Unit {0}

@@ -25,8 +25,8 @@ use script_replay::status::SideStatus;
 use std::alloc::Global;
 use text_streams::BufSource;
 
-/// Does a script whose lines are events of the bench or about claims, where the words are `claims` alone. Each claim is credited by one scan of its
-/// mark, so that its piece is mail or credited, never both.
+/// Runs a script of events of the bench and of lines about claims, if the words are `claims` alone. Each claim is credited by one scan of its mark,
+/// so that its piece is mail or credited, never both.
 pub fn run_claims<S: BufSource, R: Source, K: Sink, P: Sink, N: Nv + Drop>(
     alloc: Global,
     words: &[String],
@@ -72,7 +72,7 @@ fn fresh_desk(alloc: Global) -> Option<Desk<MemNv>>
     }
 }
 
-// The run over a bench on which nothing was done.
+// The run over an unused bench.
 fn run_over<S: BufSource, K: Sink>(
     alloc: Global,
     words: &[String],

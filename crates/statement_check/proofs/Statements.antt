@@ -16,7 +16,7 @@ use Rattle.statement_check.specs.declared.verdict.Verdict.TheVariants.{Good}
 pos_same : (a b : ℕ) → pos a ≡ pos b → a ≡ b
 pos_same a b is = cc
 
--- what right lines behind this balance are, of which the last is the closing line
+-- what right lines after this balance are, if the last is the closing line
 record ClosesFrom (before closing : ℕ) (lines : List StatementLine) : Type 0 where
   movements : List Movement
   texts : map line_text lines ≡ map (λ m. line_text (Moved m)) movements ++ line_text (Closing closing) ∷ []
@@ -25,7 +25,7 @@ record ClosesFrom (before closing : ℕ) (lines : List StatementLine) : Type 0 w
   last : IsMills closing
   follow : Follow before movements closing
 
--- nothing is right behind the closing line
+-- nothing is right after the closing line
 no_more : (b : ℕ) (lines : List StatementLine) → AreRight (Closed b) lines → lines ≡ []
 no_more b [] each = refl
 no_more b (Opening c x ∷ lines) each = let told = each.0.told in cc
@@ -86,7 +86,7 @@ pub is_statement : (closing : ℕ) (bytes : List ℕ) → HasVerdict (Good closi
 is_statement closing bytes v =
     statement_of closing bytes v.right (v.are ∙ ap (λ (r : List (List ℕ)). map line_text v.right ++ r) v.decides.2) v.each v.decides.0 v.decides.1
 
--- the lines behind an opening of this balance
+-- the lines after an opening of this balance
 record LinesFrom (before closing : ℕ) (movements : List Movement) : Type 0 where
   lines : List StatementLine
   texts : map line_text lines ≡ map (λ m. line_text (Moved m)) movements ++ line_text (Closing closing) ∷ []

@@ -1,4 +1,4 @@
--- The bytes of a statement have one verdict, and it is the one of which they were taken.
+-- The bytes of a statement have one verdict: the verdict that they were taken for.
 use Rattle.std.proofs.Common.{◌≡◌, ◌≢◌, ℕ, ℤ, pos, ◌+◌, ◌<◌, ◌≤◌, List, [], ◌∷◌, ◌++◌, length, map, Some, None, false, refl, sym, ap, subst, ◌∙◌, arith, append_assoc, append-nil, inl, inr, length-append}
 use Rattle.std.proofs.lemmas.Bool.Decides.{eqb_tells}
 use Rattle.line_runs.specs.Ends.{lines_of}
@@ -151,7 +151,7 @@ cut_first part left one some = at (first_end left)
 
 -- ---- what was taken has the verdict
 
--- the bytes behind the right lines decide
+-- the bytes after the right lines decide
 decided : (v : Verdict) (right : List StatementLine) (bytes : List ℕ) (rest : List (List ℕ)) → AreRight First right → lines_of bytes ≡ rest
     → Decides v (length right) (place_after First right) rest → HasVerdict v (script_of right ++ bytes)
 decided v right bytes rest each are d = record {

@@ -34,7 +34,7 @@ pub record GoesOn (place next : Place) (left0 left1 : Option (List ℕ)) : Type 
   pub behind : next ≡ place_behind line
   pub consumed : Consumes left0 left1 (ended (line_text line))
 
--- the verdict came of what stands behind so many lines
+-- what follows so many lines has decided the verdict
 pub record EndsSo (verdict : Verdict) (count : ℕ) (place : Place) (left0 left1 : Option (List ℕ)) : Type 0 where
   pub bytes : List ℕ
   pub consumed : Consumes left0 left1 bytes

@@ -24,7 +24,7 @@ IsOpen (Closed b) = ⊥
 abbrev pub HasNoPlace : Place → List ℕ → Type 0
 HasNoPlace place bytes = (line : StatementLine) → IsLineOf line bytes → due place line ≡ None
 
--- the bytes are a line in its place that does not tell the balance x, which is due
+-- the bytes are a line in its place that does not have the balance x, which is due
 pub record IsWrong (place : Place) (x : ℤ) (bytes : List ℕ) : Type 0 where
   pub line : StatementLine
   pub is : IsLineOf line bytes
@@ -38,7 +38,7 @@ Fails (Wrong n x) number place bytes = (n ≡ number) × IsWrong place x bytes
 Fails (Bad n) number place bytes = (n ≡ number) × HasNoPlace place bytes
 Fails TooLong number place bytes = ⊥
 
--- Behind so many right lines, at the place behind them, the rest of the lines decides: the closing line was the last; or the next line is wrong; or it
+-- After so many right lines, at the place after them, the rest of the lines decides. The closing line was the last; or the next line is wrong; or it
 -- is not in form, out of place or missing; or it is one too many.
 abbrev pub Decides : Verdict → ℕ → Place → List (List ℕ) → Type 0
 Decides (Good b) count place rest = (count ≤ 10002) × (place ≡ Closed b) × (rest ≡ [])

@@ -53,7 +53,7 @@ status_answered follows τ H d today history day on named known =
     let told = is_told d today (view_in (Device d) (device_kind.seen d) H) on in
     ap (λ p. p.reply) (follows d τ H (ev.Status d) today (Call Status) history tt day named refl tt known (rw told.1 tt)).plan ∙ told.0
 
--- what the centre tells of a customer, where it is on: it commits nothing
+-- the centre's answer about a customer, if it is on: it commits nothing
 left_told : (w n : ℕ) (o : Option CustomerRow) (v : View centre.Seen) → v.on ≡ true
     → ((seen_plan centre.counting Centre v (says (told_balance w) (left_act w n o))).reply ≡ done_or (r.CentreRefused (no_centre.UnknownCustomer w)) (done_by (says (told_balance w) (left_act w n o))))
     × (commit_of centre.counting v (says (told_balance w) (left_act w n o)) ≡ None)

@@ -63,7 +63,7 @@ takes_undated e today left undated t = by (takes_rates e) (is_some today) undate
     by true false none = refl
     by false c none = refl
 
--- it refuses, or tells what it compared: it comes of no boot and prints nothing, and the ledger stays
+-- it refuses, or reports what it compared: it follows no boot and prints nothing, and the ledger stays
 pub record IsStill (x : Reply) : Type 0 where
   pub no_up : (m : Node) (k : ℕ) → x ≢ r.Up m k
   pub no_print : (j : ℕ) → x ≢ r.Printed j

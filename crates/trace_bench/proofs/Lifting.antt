@@ -18,7 +18,7 @@ pub not_rates : (e : Event) → e ≢ ev.Rates → takes_rates e ≡ false
 not_rates ev.Rates not = absurd (not refl)
 not_rates _ not = refl
 
--- it takes nothing of the rates, whatever it is told
+-- it takes nothing of the rates, whatever its reply
 abbrev pub TakesNone : Event → Option ℤ → List ℕ → Type 0
 TakesNone e today left = (t : ReplyClass) → taken_by e today t left ≡ []
 

@@ -49,7 +49,7 @@ silent text (Err fail.Toml) = record { silent = refl; no_up = λ m k is. cc; no_
 silent text (Err fail.Form) = record { silent = refl; no_up = λ m k is. cc; no_print = λ j is. cc; adds = λ L. read_adds text (Err fail.Form) L }
 silent text (Err (fail.Memory x)) = record { silent = refl; no_up = λ m k is. cc; no_print = λ j is. cc; adds = λ L. read_adds text (Err (fail.Memory x)) L }
 
--- an answer doesn't tell that the source failed
+-- an answer doesn't report that the source failed
 was_read : (text : List ℕ) (x : Result RateTable RatesFail) → fails_to_read (class_of (plan_of text x).reply) ≡ false
 was_read text (Ok x) = refl
 was_read text (Err (fail.Length n)) = refl

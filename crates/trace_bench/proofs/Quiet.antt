@@ -1,4 +1,4 @@
--- An event whose plan commits nothing, and neither brings a node on nor prints, is answered by its plan alone.
+-- An event is answered by its plan alone, if that plan commits nothing, turns no node on and prints nothing.
 use Rattle.std.proofs.Common.{◌≡◌, ◌≢◌, inl, inr, ℕ, List, [], Option, Some, None, Result, Ok, Err, refl, sym, ◌∙◌, ap, subst}
 use Rattle.bench_base.specs.declared.words.Node.{Node}
 use Rattle.bench_base.specs.declared.events.Event.{Event}
@@ -23,7 +23,7 @@ use Rattle.trace_bench.specs.Seeing.{Audit, SeesRun, sending}
 use Rattle.trace_bench.proofs.Lifting.{TakesNone, nothing_taken, lift_told, lift_untold, lift_adds}
 use Rattle.trace_bench.proofs.Seen.{sends_nothing}
 
--- the plan tells of no failure that may come, nor of a print
+-- the plan has no failure that may happen, and no print
 pub record IsSilent (p : Plan) : Type 0 where
   pub silent : p.commit ≡ None
   pub no_up : (m : Node) (k : ℕ) → p.reply ≢ r.Up m k

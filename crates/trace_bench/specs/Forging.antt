@@ -75,7 +75,7 @@ forged_mark s bytes known (Err fault) = false
 
 -- == before it is asked ==
 
--- the auditor has the same: the same is kept of all runs, and all else is as it was
+-- the auditor has the same: the same is kept of all runs, and everything otherwise is as it was
 pub record IsSame (old new : Audit) : Type 0 where
   pub others : new ≡ record old { known = new.known }
   pub keeps : KeepsSame old.known new.known
@@ -98,7 +98,7 @@ GivesForged a Centre bytes b = b ≡ forged_message (books_in (centre_cells.cell
 GivesForged a Host bytes b = b ≡ forged_release a.known.released (read bytes)
 GivesForged a Verifier bytes b = b ≡ false
 
--- whether what is brought is forged, by the records of the auditor and what it keeps of all runs
+-- whether these bytes are forged, by the records of the auditor and what it keeps of all runs
 abbrev pub AreForged : Audit → Brought → Bool → Type 0
 AreForged a Nothing b = b ≡ false
 AreForged a (Handed n bytes) b = GivesForged a n bytes b
@@ -117,6 +117,6 @@ TellsNot b P = MatchBool b (P → ⊥) P
 abbrev pub AtHistory : Audit → (Ledger → Type 0) → Type 0
 AtHistory a P = (τ : Tariff) (H : Ledger) → History τ editions H → Sees a H → P H
 
--- whether the event brings something forged, at each history that the auditor has
+-- whether the event contains forged bytes, at each history that the auditor has
 abbrev pub TellsForged : Audit → Event → Bool → Type 0
 TellsForged a e b = AtHistory a (λ H. TellsNot b (Unforged e H))

@@ -1,4 +1,4 @@
--- What the line of the report tells of an event, by the ledger.
+-- What the line of the report shows about an event, by the ledger.
 use Rattle.std.specs.Prelude.{◌≡◌, ◌≢◌, ℕ, ℤ, List, [], length, take, not, ◌&&◌, is_some, if◌then◌else◌, Option, Result, Ok, Err}
 use Rattle.bench_base.specs.declared.events.Event.{Event}
 use Rattle.bench_base.specs.declared.events.Reply.{Reply}
@@ -35,7 +35,7 @@ module _ (τ : Tariff) (H : Ledger) (e : Event) (left line : List ℕ) where
   abbrev pub ledger_with : Reply → Ledger
   ledger_with reply = entries τ todays_rules H e (text_with reply) reply
 
-  -- the line is that of this reply, whose numbers are in range and which the event may get, and P holds of the ledger that it leaves
+  -- the line is that of this reply, its numbers are in range, the event may get it, and P holds of the ledger that it leaves
   pub record IsToldBy (P : Ledger → Type 0) (reply : Reply) : Type 0 where
     pub text : text_of reply ≡ line
     pub whole : IsWholeReply reply
@@ -68,7 +68,7 @@ module _ (τ : Tariff) (H : Ledger) (e : Event) (left line : List ℕ) where
   IsJudged a (Err (Wrong due)) = IsUntold a due
   IsJudged a (Err Memory) = Unit {0}
 
--- P at each history that the auditor has, at which the event brings nothing forged, by a tariff of texts
+-- P at each history that the auditor has, if the event contains nothing forged at it, by a tariff of texts
 abbrev pub AtEach : Audit → Event → (Tariff → Ledger → Type 0) → Type 0
 AtEach a e P = (τ : Tariff) (H : Ledger) → IsOfTexts τ → History τ editions H → Unforged e H → Sees a H → P τ H
 

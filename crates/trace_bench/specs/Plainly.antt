@@ -43,7 +43,8 @@ abbrev pub heard_of_rates : Result ℕ Finding → Result Heard Finding
 heard_of_rates (Ok taken) = Ok (record { sent = None; released = None; taken = taken; device = None })
 heard_of_rates (Err finding) = Err finding
 
--- the message was sent, it and the mark are kept, and the mark of the device's last debit is told as debited, if it was seen; or there was no memory for it
+-- the message was sent, it and the mark are kept, and the mark of the device's last debit is recorded as debited, if it was seen; or there was no
+-- memory for it
 abbrev pub SendsHeard : Heard → Audit → Audit → Result ℕ Finding → Type 0
 SendsHeard heard old new (Ok taken) =
     (new ≡ record (sending heard.sent old) { known = new.known }) × Learns heard.sent heard.released old.known new.known × (taken ≡ heard.taken)

@@ -1,4 +1,4 @@
--- What a line of the report tells of a `rates` on a day, by the text that it takes.
+-- What a line of the report shows about a `rates` on a day, by the text that it takes.
 use Rattle.std.specs.Prelude.{◌≡◌, ◌≢◌, ℕ, List, length, take, Option, Some, None, Result, Ok, Err}
 use Rattle.bench_base.specs.declared.events.Reply.{Reply}
 use Rattle.bench_base.specs.declared.events.Reply.TheVariants as r

@@ -24,8 +24,8 @@ use Rattle.trace_bench.specs.declared.auditor.Auditor.{Auditor}
 use Rattle.trace_bench.specs.declared.known.Known.{Known}
 use Rattle.trace_bench.specs.Known.{Kept, Knows, kept_of}
 
--- the day, the messages of the run, of which the first was sent first, the rates that were read last, the nodes by what was told of
--- them, of the devices number i is device i + 1, and what was sent and released in all runs
+-- The day, the messages of the run (the one sent first is first), and the rates that were read last. The nodes as the report
+-- describes them: number i of the devices is device i + 1. And what was sent and released in all runs.
 pub record Audit : Type 0 where
   pub day : Option ℤ
   pub messages : List (List ℕ)

@@ -1,5 +1,5 @@
--- What an auditor tells of each node: what is answered to `status`, `balance` and `reconcile`, what the centre keeps, how many commits count, and where
--- one is open.
+-- What an auditor reports of each node: what is answered to `status`, `balance` and `reconcile`, what the centre keeps, how many commits count, and
+-- where one is open.
 use Rattle.std.specs.Prelude.{◌≡◌, ℕ, ℤ, ◌+◌, [], Bool, true, Option, Some, None, is_some, option_map, slice_get}
 use Rattle.bench_base.specs.declared.words.Node.{Node}
 use Rattle.bench_base.specs.declared.words.Node.TheVariants.{Device, Centre, Host, Verifier}
@@ -44,17 +44,17 @@ use Rattle.trace_bench.specs.Seeing.{Audit, Sees}
 
 -- == the words of the nodes ==
 
--- the reply of an act that is done; there is none where it refuses
+-- the reply of an act that is done; None if it refuses
 abbrev pub done_by : {X : Type 0} → Act X Reply Said → Option Reply
 done_by (Refuse x) = None
 done_by (Tell said) = Some said.reply
 done_by (Commits c x said) = Some said.reply
 
--- what device d answers to `status` on a day where it is on, by its record; there is none where it was not made
+-- what device d answers to `status` on a day if it is on, by its record; None if it was not made
 abbrev pub status_by : ℕ → ℤ → device.Seen → Option Reply
 status_by d today s = done_by (device_act d today Status s.state)
 
--- what the centre answers to `balance` of customer w where it is on, by its rows; there is none where w is not open
+-- what the centre answers to `balance` of customer w if it is on, by its rows; None if w is not open
 abbrev pub balance_by : ℕ → centre.Seen → Option Reply
 balance_by w s = done_by (centre_act (Balance (record { customer = w })) (centre.books_in s))
 
@@ -127,15 +127,15 @@ abbrev pub done_or : Reply → Option Reply → Reply
 done_or refusal None = refusal
 done_or refusal (Some reply) = reply
 
--- at each history that the auditor has, whose day this is, and at which the node is on, the event is answered so
+-- at each history that the auditor has, if this is its day and the node is on, the event is answered so
 abbrev pub IsAnswered : Audit → ℤ → Node → Event → Reply → Type 0
 IsAnswered a today m e reply = (τ : Tariff) (H : Ledger) → History τ editions H → Sees a H
     → day_in H ≡ Some today → is_on m H ≡ true → answer τ todays_rules H e [] ≡ reply
 
--- so is `status` of device d, and a device that was not made refuses
+-- `status` of device d is answered so, and a device that was not made refuses
 abbrev pub SaysStatus : Audit → ℕ → ℤ → Option Reply → Type 0
 SaysStatus a d today told = IsAnswered a today (Device d) (ev.Status d) (done_or (r.DevRefused d Blank) told)
 
--- so is `balance` of customer w on each day, and the centre refuses of one that is not open
+-- `balance` of customer w is answered so on each day, and the centre refuses if the customer is not open
 abbrev pub SaysBalance : Audit → ℕ → Option Reply → Type 0
 SaysBalance a w told = (today : ℤ) → IsAnswered a today Centre (ev.Balance w) (done_or (r.CentreRefused (UnknownCustomer w)) told)

@@ -74,7 +74,7 @@ impl<K: AsBytes> ByteSet<K> {
         }
     }
 
-    // By the hash, where nothing is listed.
+    // The search is by the hash, if nothing is listed.
     pub(crate) fn has(&self, bytes: &[u8]) -> bool
         ensures { result ≡ has_by K.bytes_of bytes.now self.now }
     {

@@ -1,4 +1,4 @@
-//! What an auditor tells of each node, by what it has behind the runs that were judged.
+//! What an auditor reports of each node, by what it has after the runs that were judged.
 ghost use Rattle.std.specs.Prelude.{◌≡◌, ◌-◌, ◌+◌, length, is_some, slice_get, option_map, Some};
 ghost use Rattle.std.specs.Option.{option_copied};
 ghost use Rattle.bench_base.specs.Ranges.{IsDevice};
@@ -64,7 +64,7 @@ pub(crate) fn traced_of(
 }
 
 impl Auditor {
-    /// The day of the run that was judged last. None where no day was told in it.
+    /// The day of the run that was judged last. None if that run has set no day.
     pub fn day(&self) -> Option<DayNo>
         ensures { result ≡ (audit_of self.now).day }
     {
@@ -149,7 +149,7 @@ impl Auditor {
         self.centre.record.accounts().customer(customer.get())
     }
 
-    /// The last job that was ordered, by the commits of the host that count; 0 where there is none.
+    /// The last job that was ordered, by the commits of the host that count; 0 if no job was ordered.
     pub fn last_job(&self) -> u32
         ensures by_record { result ≡ last_in (rows_in (host_cells.cells_of (audit_of self.now).host.record)) }
         ensures by_ledger { (H : Ledger) → Sees (audit_of self.now) H → result ≡ last_in (rows_in (host_in H)) }

@@ -1,4 +1,4 @@
--- The acts of the centre's calls: what they commit, what they may be told as, and what they print.
+-- The acts of the centre's calls: what they commit, which replies they may get, and what they print.
 use Rattle.std.proofs.Common.{◌≡◌, ◌≢◌, ℕ, None, refl}
 use Rattle.std.specs.Prelude.{IfSome}
 use Rattle.bench_base.specs.declared.words.Node.TheVariants.{Centre}

@@ -1,4 +1,4 @@
--- The acts of a device's calls: what they may be told as, and what they print.
+-- The acts of a device's calls: which replies they may get, and what they print.
 use Rattle.std.proofs.Common.{◌≡◌, ◌≢◌, ℕ, ℤ, Option, refl}
 use Rattle.bench_base.specs.declared.events.Reply.TheVariants as r
 use Rattle.bench_base.specs.Replies.{Did, class_of}

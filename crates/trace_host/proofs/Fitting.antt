@@ -1,4 +1,4 @@
--- The acts of the host's calls: what they commit, and what they may be told as.
+-- The acts of the host's calls: what they commit, and which replies they may get.
 use Rattle.std.proofs.Common.{refl}
 use Rattle.std.specs.Prelude.{IfSome}
 use Rattle.bench_base.specs.declared.words.Node.TheVariants.{Host}

@@ -29,7 +29,7 @@ IsFit s x = IsNext (rows_in s) x
 abbrev pub printing : ℕ → HostCall
 printing j = call.Print (record { job = j })
 
--- the numbers of a call, as an event brings them
+-- the numbers of a call, as an event contains them
 abbrev pub IsRanged : HostCall → Type 0
 IsRanged (call.Order c) = IsDevice c.device × IsPrice c.price
 IsRanged (call.Send c) = Unit {0}

@@ -139,7 +139,7 @@ tells_none a none = by a.sent a.given none
     by (Some note) g is = given g is
 
 module _ {S X : Type 0} (n : Counting S X) (m : Node) where
-  -- the plan of an act that releases nothing tells of no release
+  -- the plan of an act that releases nothing has no release
   pub seen_unreleasing : (v : View S) (act : Act X Reply Said) → ReleasesNone act → IsUnreleasing (seen_plan n m v act).after
   seen_unreleasing v act none = by v.on
     where

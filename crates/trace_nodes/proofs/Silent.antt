@@ -1,4 +1,4 @@
--- An event whose plan prints nothing is answered by no printer fault.
+-- An event is not answered by a printer fault if its plan prints nothing.
 use Rattle.std.proofs.Common.{◌≡◌, ◌≢◌, inl, inr, ℕ, List, false, Option, Result, Ok, Err, refl, sym, ◌∙◌, ap}
 use Rattle.bench_base.specs.declared.words.Node.{Node}
 use Rattle.bench_base.specs.declared.ledger.Commit.{Commit}

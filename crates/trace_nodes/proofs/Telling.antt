@@ -1,5 +1,4 @@
--- A line of a call, by what the call may come to: the replies that it may get are those of what it may come to, and their texts tell
--- them apart.
+-- A line of a call, by the possible results of the call: the replies that it may get are those of these results, and their texts distinguish them.
 use Rattle.std.proofs.Common.{◌≡◌, ◌≢◌, ◌⊎◌, inl, inr, ℕ, List, Option, Some, None, Bool, true, false, if◌then◌else◌, option_map, refl, sym, ◌∙◌, ap}
 use Rattle.bench_base.specs.declared.words.Node.{Node}
 use Rattle.bench_base.specs.declared.ledger.Commit.{Commit}
@@ -144,7 +143,7 @@ module _ {S X : Type 0} (n : Counting S X) (m : Node) where
         let open_one = torn made.0 made.1 in
         (o.Fault made.0, open_one, ap r.Fault (sym (seen_own n m v act (made.0, open_one.0) own open_one.1).0 ∙ made.2))
 
-    -- == texts tell them apart ==
+    -- == texts distinguish them ==
 
     -- what it may come to is the answer, or a failure
     no_power : (i : Node) (k : Node) → class_of p.reply ≡ LostPower i → ⊥

@@ -1,4 +1,4 @@
--- What a line of the report tells of the marks that leave a device.
+-- What a line of the report shows about the marks that leave a device.
 use Rattle.std.specs.Prelude.{◌≡◌, ℕ, List, [], ◌↔◌, Option, Some, None, Result, Ok, Err}
 use Rattle.bench_base.specs.declared.words.Node.{Node}
 use Rattle.bench_base.specs.declared.ledger.Commit.{Commit}

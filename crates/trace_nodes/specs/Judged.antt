@@ -1,4 +1,4 @@
--- What a line of the report tells of an event of one node, by what is seen of the node.
+-- What a line of the report shows about an event of one node, by what is seen of the node.
 use Rattle.std.specs.Prelude.{◌≡◌, ◌≢◌, ℕ, List, [], ◌∷◌, false, Option, Some, None, Result, Ok, Err}
 use Rattle.bench_base.specs.declared.words.Node.{Node}
 use Rattle.bench_base.specs.declared.ledger.Commit.{Commit}
@@ -30,12 +30,12 @@ PrintsNone (Refuse x) = Unit {0}
 PrintsNone (Tell a) = (j : ℕ) → a.reply ≢ r.Printed j
 PrintsNone (Commits c x a) = (j : ℕ) → a.reply ≢ r.Printed j
 
--- == what a line tells ==
+-- == what a line shows ==
 
 -- The event of node m has this plan and this commit, by what is seen of the node.
 module _ {S X : Type 0} (n : Counting S X) (m : Node) (v : View S) (p : Plan) (made : Option (Commit × S)) where
-  -- The line is that of this reply, whose numbers are in range, and which the event may get; the node is left so, and this is what was sent. Any other reply that
-  -- it may get with that line tells the same, and so leaves the same ledger.
+  -- The line is that of this reply, its numbers are in range, and the event may get it; the node is left so, and this is what was sent. Any other
+  -- reply that it may get with that line means the same, and so leaves the same ledger.
   pub record TellsOf (line : List ℕ) (w : View S) (sent : Option (List ℕ)) (reply : Reply) : Type 0 where
     pub text : text_of reply ≡ line
     pub whole : IsWholeReply reply

@@ -18,7 +18,7 @@ use bench_base::words::Node;
 use node_acts::{Act, Outcome, Said};
 use script_text::{Line, put_reply};
 
-/// Whether the line is that of this reply, whose numbers fit their types (`whole`).
+/// Whether the line is that of this reply. The numbers of the reply fit their types (`whole`).
 pub fn is_told(reply: &Reply, line: &[u8]) -> bool
     ensures exact { IsTrue result ↔ (text_of reply.now ≡ line.now) }
     ensures whole { IsWholeReply reply.now }
@@ -139,8 +139,9 @@ pub(crate) fn take_outcome<R: Record<X>, X: Copy>(
     }
 }
 
-/// Judges the line of a call of a node by its act. `Ok`, with the message that it sent, if and only if the call may get a reply of that
-/// line: the node is left as that reply tells. `Err`, with the answer that was due, if and only if it may get none: the node rests.
+/// Judges the line of a call of a node by its act. `Ok`, with the message that it sent, if and only if the call may get a reply of that line: the
+/// node is left as that reply says. `Err`, with the answer that was due, if and only if no reply that it may get has that line: the node is
+/// unchanged.
 pub fn judge_call<R: Record<X>, X: Copy>(
     traced: &mut Traced<R, X>,
     node: &Node,

@@ -21,7 +21,7 @@ use Rattle.trace_runs.specs.declared.verdict.Ending.TheVariants.{Done as Ended, 
 use Rattle.trace_runs.specs.declared.verdict.Verdict.{Verdict}
 use Rattle.trace_runs.specs.declared.verdict.Verdict.TheVariants.{Lawful, Stopped, Wrong, Forged, Unkept, More, Memory, Unread}
 
--- steps of these pairs, behind which P holds
+-- steps of these pairs, with P after them
 pub record Made (τ : Tariff) (P : Ledger → List ℕ → Type 0) (H : Ledger) (left : List ℕ) (a : List Pair) : Type 0 where
   pub trace : List TraceStep
   pub each : AllByRecursion (Reads script_lines) trace

@@ -20,7 +20,7 @@ use Rattle.trace_runs.specs.declared.imprint.Given.{Given}
 use Rattle.scan_laws.proofs.Tells.{is_failure}
 use Rattle.scan_laws.proofs.Plans.{plan_says, only_print}
 
--- == what of a print is told by its text ==
+-- == what the text of a print shows about it ==
 
 printed_back : (x : Reply) (j : ℕ) → told x ≡ r.Printed j → x ≡ r.Printed j
 printed_back (r.Printed i) j is = is

@@ -40,7 +40,7 @@ gave reply mark g piece given took = record {
   none = λ a b. let wrong : Some g ≡ None = given.none a b in cc;
 }
 
--- steps of these pairs, behind which P holds, that print these bytes
+-- steps of these pairs, with P after them, that print these bytes
 pub record MadePrinted (τ : Tariff) (P : Ledger → List ℕ → Type 0) (H : Ledger) (left : List ℕ) (a : List Pair) (bytes : List ℕ) : Type 0 where
   pub made : Made τ P H left a
   pub run : IsRun τ H left (done_in made.trace)

@@ -15,7 +15,7 @@ use Rattle.script_replay.specs.Trace.{ledger_by, ledger_after}
 use Rattle.trace_runs.specs.Audits.{MayTell, IsRun, AreAlike}
 use Rattle.trace_bench.specs.Judging.{taken_by}
 
--- what a reply tells of is told by its text
+-- the text of a reply shows its class
 telling : (x : Reply) → class_of (told x) ≡ class_of x
 telling (r.ScanRefused y) = refl
 telling _ = refl

@@ -61,7 +61,7 @@ module _ (number : ℕ) (inside : number ≤ 1000000) (script line lines : List 
   is_event : IsEvent number (lines_of script) e
   is_event = record { inside = inside; line = line; more = lines_of lines; rest_is = begins.first; short = begins.short; is = begins.is }
 
-  -- the event brings nothing forged, at each history that the auditor has
+  -- the event contains nothing forged, at each history that the auditor has
   abbrev IsUnforgedThere : Type 0
   IsUnforgedThere = AtHistory old (λ H. Unforged e H)
 
@@ -106,7 +106,7 @@ module _ (number : ℕ) (inside : number ≤ 1000000) (script line lines : List 
   pub unread : (before : List Imprint) → FellPut number script report rates old new before before (Unread input.Report number)
   unread before = (record { falls = refl; so = λ τ H texts history seen. tt }, sym (append-nil before))
 
-  -- its line goes on behind more than the prefix of any answer
+  -- its line goes on after more than the prefix of any answer
   pub too_long : (v : Verdict) (prefix behind : List ℕ) (before after : List Imprint) → report ≡ prefix ++ behind → IsOneLine prefix → ((n : ℕ) → v ≡ Stopped n → ⊥) → IsUnforgedThere → StopsSo number e prefix rates old new before after v
       → FellPut number script report rates old new before after v
   too_long (Stopped n) prefix behind before after is one never unforged stop = absurd (never n refl)

@@ -7,7 +7,7 @@ use Rattle.trace_runs.specs.declared.verdict.Ending.{Ending}
 use Rattle.trace_runs.specs.declared.verdict.Verdict.{Verdict}
 use Rattle.trace_runs.specs.declared.verdict.Verdict.TheVariants.{Lawful}
 
--- so many lines were taken of a source, each with its line end, and nothing else
+-- so many lines were taken of a source, each with its line end, and nothing more
 pub record TookLines (count : ℕ) (left0 left1 : Option (List ℕ)) : Type 0 where
   pub lines : List (List ℕ)
   pub each : AllByRecursion IsOneLine lines

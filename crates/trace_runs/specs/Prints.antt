@@ -24,7 +24,7 @@ ArePrinted (i ∷ imprints) bytes = (piece rest : List ℕ) × (bytes ≡ piece 
 abbrev pub IsWhole : Imprint → Type 0
 IsWhole i = i.given.taken ≡ Whole
 
--- so many imprints are there and were taken whole, the bytes begin with their lines, and this is left behind them
+-- so many imprints are there and were taken whole, the bytes begin with their lines, and this is left after them
 abbrev pub FitsUpTo : List Imprint → List ℕ → ℕ → List ℕ → Type 0
 FitsUpTo imprints bytes zero rest = bytes ≡ rest
 FitsUpTo [] bytes (suc place) rest = ⊥
@@ -35,7 +35,7 @@ abbrev pub BeginsOpen : List Imprint → Type 0
 BeginsOpen [] = ⊥
 BeginsOpen (i ∷ imprints) = IsWhole i → ⊥
 
--- the first of these was taken whole, and the bytes don't begin with its line; or there is none, and bytes are left over
+-- the first of these was taken whole, and the bytes don't begin with its line; or there is no imprint, and bytes are left over
 abbrev pub BeginsOther : List Imprint → List ℕ → Type 0
 BeginsOther [] bytes = bytes ≢ []
 BeginsOther (i ∷ imprints) bytes = IsWhole i × ((more : List ℕ) → bytes ≢ print_line i.given.mark ++ more)

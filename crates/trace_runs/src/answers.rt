@@ -24,8 +24,8 @@ use std::alloc::Global;
 use text_streams::ReadAhead;
 use trace_bench::{Auditor, Finding, index, is_forged, judge};
 
-// Judges the line that the report has for the event of the line of this number: how much of the rates the event took, in bytes. What is left of the report
-// stands behind its line end.
+// Judges the line that the report has for the event of the line of this number: how much of the rates the event took, in bytes. What is left of the
+// report follows the line end.
 fn judge_line<R: Source>(
     alloc: Global,
     auditor: &mut Auditor,
@@ -68,7 +68,7 @@ fn judge_line<R: Source>(
     }
 }
 
-// Judges what the report has for the event, which brings nothing forged.
+// Judges what the report has for the event, which contains nothing forged.
 fn hear<R: Source>(
     alloc: Global,
     auditor: &mut Auditor,

@@ -1,4 +1,4 @@
-//! Where a script ends: how, and whether the report ends there too.
+//! How a script ends, and whether the report ends there too.
 ghost use Rattle.std.specs.Prelude.{◌≤◌, []};
 ghost use Rattle.line_runs.specs.Ends.{EndsAt};
 ghost use Rattle.line_extensions.specs.Scripts.{script_grammar};

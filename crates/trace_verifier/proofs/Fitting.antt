@@ -1,4 +1,4 @@
--- The acts of the verifier's calls: what they commit, what they may be told as, and what they print.
+-- The acts of the verifier's calls: what they commit, which replies they may get, and what they print.
 use Rattle.std.proofs.Common.{◌≡◌, ℤ, ◌<◌, false, length, refl, arith}
 use Rattle.std.specs.Prelude.{IfSome}
 use Rattle.bench_base.specs.declared.words.Node.TheVariants.{Verifier}

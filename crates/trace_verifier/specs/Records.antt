@@ -32,7 +32,7 @@ abbrev pub row_by : Option Row → Change → Row
 row_by before (change.Trust d key) = TrustRow d key
 row_by before (change.Accept cell d b place n) = BlockRow d b (set (scans_in before) place n)
 
--- the numbers of a call, as an event brings them
+-- the numbers of a call, as an event contains them
 abbrev pub IsRanged : VerifierCall → Type 0
 IsRanged (call.Trust c) = IsDevice c.device × IsKey c.key
 IsRanged (call.Scan c) = IsCount c.number × IsBytes c.bytes

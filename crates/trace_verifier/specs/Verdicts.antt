@@ -1,4 +1,4 @@
--- What a line of the report tells of an event of the verifier, by what is seen of it, and by the ledger.
+-- What a line of the report shows about an event of the verifier, by what is seen of it, and by the ledger.
 use Rattle.std.specs.Prelude.{ℕ, ℤ, List, Option, Result}
 use Rattle.bench_base.specs.declared.words.Node.TheVariants.{Verifier}
 use Rattle.bench_base.specs.declared.ledger.Commit.{Commit}

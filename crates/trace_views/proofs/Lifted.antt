@@ -180,7 +180,7 @@ asked_releases {C = C} n kind m d acts today asked v reply = plan_releases (plan
 
 -- == an `on` alone is answered by Up ==
 
--- the plan of each call of the node is that of an act, which refuses or tells that it was done
+-- the plan of each call of the node is that of an act, which refuses or reports that it was done
 abbrev pub IsByActs : {N S X C : Type 0} → Counting S X → Kind N S C → Node → N → Type 0
 IsByActs {N} {S} {X} {C} n kind m d = (today : ℤ) (v : View S) (c : C) → (act : Act X Reply Said) × (kind.plan d today v c ≡ seen_plan n m v act) × IsPlain act
 
@@ -267,7 +267,7 @@ module _ {N S X C : Type 0} (n : Counting S X) (kind : Kind N S C) (m : Node) (d
 
   module _ (IsWhole : Asked C → Type 0) (Fits : S → Type 0) (law : FollowsAlways n kind m d bench_kinds work_of IsWhole Fits) (today : ℤ) (asked : Asked C) (line : List ℕ) (v w : View S)
       (fits : Fits v.state) (next : IfSome (commit_in n kind m d today asked v) (λ x. Fits x.1)) where
-    -- the same of any view: what is told of a line
+    -- the same of any view: what a line shows
     abbrev SoFrom : Option (List ℕ) → Option (List ℕ) → Reply → Tariff → Ledger → Event → View S → Type 0
     SoFrom sent released reply τ H e u = Fits u.state → IfSome (commit_in n kind m d today asked u) (λ x. Fits x.1) → TellsOf n m u (plan_in n kind m d today asked u) (commit_in n kind m d today asked u) line w sent reply
         → IsOnlyRelease released (after (plan_in n kind m d today asked u) reply []) → MovesSo n kind m d τ H e line w sent released reply
