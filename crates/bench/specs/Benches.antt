@@ -184,15 +184,29 @@ module _ (n : Nodes) where
   devices = record { Own = n.Devices; Name = ℕ; Change = n.DeviceChange; Spare = n.DeviceSpare; Call = DeviceCall; ghosts = n.devices; kind = n.kinds.devices }
 
   abbrev pub centre : OneKind n.Storage
-  centre = record { Own = n.Centres; Name = Unit {0}; Change = n.CentreChange; Spare = n.CentreSpare; Call = CentreCall; ghosts = n.centre;
-      kind = n.kinds.centre }
+  centre = record {
+    Own = n.Centres;
+    Name = Unit {0};
+    Change = n.CentreChange;
+    Spare = n.CentreSpare;
+    Call = CentreCall;
+    ghosts = n.centre;
+    kind = n.kinds.centre;
+  }
 
   abbrev pub host : OneKind n.Storage
   host = record { Own = n.Hosts; Name = Unit {0}; Change = n.HostChange; Spare = n.HostSpare; Call = HostCall; ghosts = n.host; kind = n.kinds.host }
 
   abbrev pub verifier : OneKind n.Storage
-  verifier = record { Own = n.Verifiers; Name = Unit {0}; Change = n.VerifierChange; Spare = n.VerifierSpare; Call = VerifierCall;
-      ghosts = n.verifier; kind = n.kinds.verifier }
+  verifier = record {
+    Own = n.Verifiers;
+    Name = Unit {0};
+    Change = n.VerifierChange;
+    Spare = n.VerifierSpare;
+    Call = VerifierCall;
+    ghosts = n.verifier;
+    kind = n.kinds.verifier;
+  }
 
   -- P holds of this node
   abbrev pub By : OfName n.Storage → Node → Type 0

@@ -82,15 +82,18 @@ verifier_event asked = asked_event Verifier verifier_call_event asked
 
 -- What node m, which is d of its kind, came to if it was asked this. A switch, or a fuse that was armed, is reported alike
 -- for each kind, and the printer took nothing. If it was a call, P holds.
-abbrev pub Comes : {K S N C R X : Type 0} (n : Ghosts K S N C R) → nv.Ghosts S → fuse.Ghosts S → Node → N → (Turn → Type 0) → K → K → Printer → Printer → (X → Type 0) → Asked X → Type 0
+abbrev pub Comes : {K S N C R X : Type 0} (n : Ghosts K S N C R) → nv.Ghosts S → fuse.Ghosts S → Node → N → (Turn → Type 0) → K → K → Printer
+    → Printer → (X → Type 0) → Asked X → Type 0
 Comes n g f m d IsOf s t p q P On = (x : Started) × StartDoes n g d s t x × IsOf (start_turn m x) × (q ≡ p)
 Comes n g f m d IsOf s t p q P Off = (was : Bool) × StopDoes n g s t was × IsOf (stop_turn m was) × (q ≡ p)
 Comes n g f m d IsOf s t p q P (Cut calls keep byte) = ArmDoes n g f calls keep byte s t × IsOf (turn_of (r.CutSet m) []) × (q ≡ p)
 Comes n g f m d IsOf s t p q P (Call c) = P c
 
 -- what the event of node m, which is d of its kind, came to on that day, as it is reported, and what the printer took in it
-abbrev pub Told : {K S N C R X : Type 0} (n : Ghosts K S N C R) → nv.Ghosts S → fuse.Ghosts S → Kind N n.Seen X → Node → N → ℤ → Event → Asked X → (Turn → Type 0) → K → K → Printer → Printer → Type 0
-Told n g f kind m d today e asked IsOf s t p q = (turn : Turn) × IsOf turn × NodeTurn n g f kind m d today e asked s t turn × NodePrints n g kind m d today asked s turn.reply p q
+abbrev pub Told : {K S N C R X : Type 0} (n : Ghosts K S N C R) → nv.Ghosts S → fuse.Ghosts S → Kind N n.Seen X → Node → N → ℤ → Event → Asked X
+    → (Turn → Type 0) → K → K → Printer → Printer → Type 0
+Told n g f kind m d today e asked IsOf s t p q = (turn : Turn) × IsOf turn × NodeTurn n g f kind m d today e asked s t turn
+    × NodePrints n g kind m d today asked s turn.reply p q
 
 -- what the event of a device came to on that day, what the printer took in it, and where the device stands
 pub record DeviceTurn {K S C R : Type 0} (n : Ghosts K S ℕ C R) (g : nv.Ghosts S) (f : fuse.Ghosts S) (kind : Kind ℕ n.Seen DeviceCall)

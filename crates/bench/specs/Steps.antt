@@ -76,7 +76,8 @@ PrintsViews n g kind m d today asked turn s before now =
 -- What an event on this day with this reply leaves of node m, whether or not its storage exposes its contents. It says
 -- whether the node is on, unless the event names a message that nobody sent, and what its counts and its fuse are. If the
 -- event is for another node, node m is as it was.
-pub record Leaves {K S N C R : Type 0} (n : Ghosts K S N C R) (g : nv.Ghosts S) (f : fuse.Ghosts S) (m : Node) (e : Event) (today : Option ℤ) (reply : Reply) (s t : K) : Type 0 where
+pub record Leaves {K S N C R : Type 0} (n : Ghosts K S N C R) (g : nv.Ghosts S) (f : fuse.Ghosts S) (m : Node) (e : Event) (today : Option ℤ)
+    (reply : Reply) (s t : K) : Type 0 where
   pub switches : IsSome today → node_for e ≡ Some m → ((k : ℕ) → reply ≢ r.NoMessage k) → Switches m e reply (n.is_on s) (n.is_on t)
   pub charged : Charged m e reply (meters_of n g s) (meters_of n g t)
   pub armed : IsSome today → (calls keep byte : ℕ) → e ≡ ev.Cut m calls keep byte → IsArmed n f t calls keep byte
@@ -160,7 +161,7 @@ module _ (n : Nodes) where
   DoesAsked today turn old new before now (of_day.Centre asked) = MovesViews n.centre n.storage n.kinds.centre Centre tt today asked turn old.centre new.centre
   DoesAsked today turn old new before now (of_day.Host asked) =
       MovesViews n.host n.storage n.kinds.host Host tt today asked turn old.host new.host
-          × PrintsViews n.host n.storage n.kinds.host Host tt today asked turn old.host before now
+      × PrintsViews n.host n.storage n.kinds.host Host tt today asked turn old.host before now
   DoesAsked today turn old new before now (of_day.Verifier asked) =
       MovesViews n.verifier n.storage n.kinds.verifier Verifier tt today asked turn old.verifier new.verifier
   DoesAsked today turn old new before now _ = Unit {0}

@@ -77,7 +77,7 @@ module _ {N S X C : Type 0} (n : Counting S X) (kind : Kind N S C) (m : Node) (d
   FollowsAlways kinds work_of IsWhole Fits = (τ : Tariff) (H : Ledger) (e : Event) (today : ℤ) (asked : Asked C) → History τ editions H → Unforged e H
       → day_in H ≡ Some today
       → IsWholeEvent e → routed (sent_in H) (quote_in τ H) e ≡ Some (route.OfDay (work_of asked)) → IsWhole asked → Fits (view_by H).state
-          → IfSome (commit_by today asked H) (λ x. Fits x.1)
+      → IfSome (commit_by today asked H) (λ x. Fits x.1)
       → Follows kinds τ H e today asked
 
 -- an event of a device, of the centre, of the host or of the verifier does what the node alone would do, and changes that node alone
@@ -113,4 +113,4 @@ quiet_by kinds H x = quiet_reply kinds (λ d. view_in (Device d) (kinds.devices.
 abbrev pub OthersAreQuiet : {D C H V : Type 0} → Kinds D C H V → (C → Type 0) → Type 0
 OthersAreQuiet kinds IsSound = (τ : Tariff) (H : Ledger) (e : Event) (today : ℤ) (x : OfDay) (reply : Reply) → History τ editions H → day_in H ≡ Some today
     → routed (sent_in H) (quote_in τ H) e ≡ Some (route.OfDay x) → IsSound (view_in Centre (kinds.centre.seen tt) H).state
-        → quiet_by kinds H x ≡ Some reply → plan τ todays_rules H e [] ≡ refuse reply
+    → quiet_by kinds H x ≡ Some reply → plan τ todays_rules H e [] ≡ refuse reply

@@ -51,8 +51,12 @@ pub record LookUps : Type 0 where
   pub standing : ℕ → Option Standing
 
 abbrev pub in_books : Books → LookUps
-in_books b = record { device = λ d. device_at b d; customer = λ w. customer_at b w; left = λ w. left_in b w;
-    standing = λ d. option_map standing_of (device_at b d) }
+in_books b = record {
+  device = λ d. device_at b d;
+  customer = λ w. customer_at b w;
+  left = λ w. left_in b w;
+  standing = λ d. option_map standing_of (device_at b d);
+}
 
 -- == customers ==
 

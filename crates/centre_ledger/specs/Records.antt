@@ -87,8 +87,18 @@ pub record IsCustomerOf (r : CustomerRow) (C : List Commit) : Type 0 where
 
 -- a device that is only registered
 abbrev pub registered_row : ℕ → ℕ → List ℕ → DeviceRow
-registered_row d origin key = record { device = d; enrolment = Registered; origin = origin; key = key; ruled = 0; settled = 0; buys = 0; returns = 0;
-    request = []; reply = [] }
+registered_row d origin key = record {
+  device = d;
+  enrolment = Registered;
+  origin = origin;
+  key = key;
+  ruled = 0;
+  settled = 0;
+  buys = 0;
+  returns = 0;
+  request = [];
+  reply = [];
+}
 
 -- a customer without deposits
 abbrev pub opened_row : ℕ → CustomerRow

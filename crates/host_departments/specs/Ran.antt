@@ -54,7 +54,8 @@ AllAssigned rows (d ∷ steps) = PrintsAssigned rows d × AllAssigned rows steps
 -- The rest is by a history that the bench represented, if the jobs of earlier runs are backed by it. Up to the first forged event, what is kept
 -- at each line holds by the ledger so far, and `dept spent` is answered by it. If nothing was forged, what is kept holds by the ledger that the
 -- steps leave, both without the failed commit and with it.
-pub record DidDepartments (n : Nodes) {N : Type 0} (own : nv.Ghosts N) (old new : World (SceneOf n) (Departments N own)) (outcome : SideStatus) (trace : List (SideStep DepartmentLine)) : Type 0 where
+pub record DidDepartments (n : Nodes) {N : Type 0} (own : nv.Ghosts N) (old new : World (SceneOf n) (Departments N own)) (outcome : SideStatus)
+    (trace : List (SideStep DepartmentLine)) : Type 0 where
   pub side : DidSide n (departments_desk own) old new outcome trace
   pub failed : Option CellCommit
   pub answers : AreAnswered (StepsBy n) (scene side.begun old.scene.outside) (rows_of old.desk) trace side.behind.scene (rows_of new.desk) failed

@@ -12,8 +12,19 @@ use Rattle.psd_wire.specs.Grammar.{read}
 
 -- an audit of nothing on the first day that the product knows: it stands where there is no Request, and adds nothing to any sum
 abbrev pub no_request : Request
-no_request = record { version = 1; device = 0; number = 0; kind = Audit; customer = 0; amount = 0; ascending = 0; descending = 0; refunded = 0;
-    pieces = 0; day = pos 10957 }
+no_request = record {
+  version = 1;
+  device = 0;
+  number = 0;
+  kind = Audit;
+  customer = 0;
+  amount = 0;
+  ascending = 0;
+  descending = 0;
+  refunded = 0;
+  pieces = 0;
+  day = pos 10957;
+}
 
 -- the Request that was read, or an empty one
 abbrev pub request_or_none : Result Message Unread → Request

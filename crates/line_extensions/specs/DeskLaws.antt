@@ -84,7 +84,7 @@ module _ {K T : Type 0} (k : Ghosts K T) {B : Type 0} (Steps : B → B → StepR
     asked_steps old new next [] last asks = subst (λ (b : B). DidEvents old.scene b []) (ap (λ (w : World B K). w.scene) (sym asks.1)) (chain.nothing old.scene)
     asked_steps old new next (d ∷ rest) last asks =
         chain.both old.scene asks.0.scene new.scene (d ∷ []) rest (chain.one old.scene asks.0.scene d asks.2.turn asks.2.did)
-            (asked_steps asks.0 new asks.1 rest last asks.3)
+        (asked_steps asks.0 new asks.1 rest last asks.3)
 
     one_step : (old new : World B K) (d : SideStep k.Own) → DoesOne k Steps old new d → DidEvents old.scene new.scene (steps_in d)
     one_step old new (Plain (Skipped line)) did = subst (λ (b : B). DidEvents old.scene b []) (ap (λ (w : World B K). w.scene) (sym did))

@@ -87,7 +87,8 @@ pub record PrinterDid (reply : Reply) (mark : Option (List ℕ)) (before now : P
 
 -- the same of an event that was asked of node m, which is d of its kind: the mark is the one that the plan prints by any
 -- view that the node represented
-pub record NodePrints {K S N C R X : Type 0} (n : Ghosts K S N C R) (g : nv.Ghosts S) (kind : Kind N n.Seen X) (m : Node) (d : N) (today : ℤ) (asked : Asked X) (s : K) (reply : Reply)
+pub record NodePrints {K S N C R X : Type 0} (n : Ghosts K S N C R) (g : nv.Ghosts S) (kind : Kind N n.Seen X) (m : Node) (d : N) (today : ℤ)
+    (asked : Asked X) (s : K) (reply : Reply)
     (before now : Printer) : Type 0 where
   pub by_view : (v : View n.Seen) → Stands n g d v s → g.tells → PrinterDid reply (print_of (plan_by n kind m d today v asked).after) before now
   pub mark : Option (List ℕ)

@@ -8,7 +8,8 @@ use Rattle.nv_model.specs.declared.nv.NvFail.TheVariants.{Power, Fault}
 
 -- The ghost members of a storage. It exposes its bytes or not, and has a size. Its contents are what a read gives, what was
 -- last made durable, and which places were written since. It has its moment and images, and its counts.
-module _ {S : Type 0} (tells : Type 0) (size_of : S → ℕ) (content_of base_of : S → List ℕ) (written_in : S → ℕ → Bool) (times_of : S → Times) (meters_of : S → Meters)
+module _ {S : Type 0} (tells : Type 0) (size_of : S → ℕ) (content_of base_of : S → List ℕ) (written_in : S → ℕ → Bool) (times_of : S → Times)
+    (meters_of : S → Meters)
     (before now : S) where
   -- a read of these bytes, from `at` on
   pub record DidRead (at : ℕ) (bytes : List ℕ) (result : Result (Unit {0}) NvFail) : Type 0 where

@@ -33,8 +33,11 @@ blank_held count payload None is = let both : (count ≡ 0 → ◌≡◌ {A = Op
       | inr some ↦ absurd (subst (IsHeld count None) (some_held count payload (omega arith)) is)
     ]
 blank_held count payload (Some s) is = let both : (count ≡ 0 → ◌≡◌ {A = Option State} (Some s) None)
-    × (◌≡◌ {A = Option State} (Some s) None → count ≡ 0) = (λ none. absurd
-    (differs (subst (IsHeld count (Some s)) (none_held count payload none) is)), λ none. cc) in both
+    × (◌≡◌ {A = Option State} (Some s) None → count ≡ 0) = (
+      λ none. absurd
+          (differs (subst (IsHeld count (Some s)) (none_held count payload none) is)),
+      λ none. cc,
+    ) in both
   where
     differs : ◌≡◌ {A = Option State} (Some s) None → ⊥
     differs e = cc

@@ -39,7 +39,7 @@ pub not_damaged : {N : Type 0} (g : Ghosts N) (d : ℕ) (nv : N) → ShowsOwn d 
 not_damaged g d nv own size damaged =
     ⊎_elim (λ other. other size)
     (λ wrong. ⊎_elim (λ mixed. not_mixed SLOTS (slots_at RECORD_BYTES 0 (g.content nv)) mixed (shows_clear d (g.content nv) own))
-        (λ foreign. own_not_foreign d (g.content nv) own foreign) wrong.1)
+    (λ foreign. own_not_foreign d (g.content nv) own foreign) wrong.1)
     damaged
 
 pub intact : {N : Type 0} (g : Ghosts N) (d : ℕ) (s : Seen) (nv : N) → IsSound d s → IsShown s.count s.state (g.content nv) → g.size nv ≡ DEVICE_BYTES

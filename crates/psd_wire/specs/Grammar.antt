@@ -245,7 +245,7 @@ read bytes =
     if nat_lt (length bytes) 2 then Err unread.Length
     else if is_version (get_or bytes 0 0)
     then given unread.Tag (size_of (get_or bytes 0 0) (get_or bytes 1 0))
-        (λ n. if length bytes == n then by_tag (get_or bytes 1 0) bytes else Err unread.Length)
+    (λ n. if length bytes == n then by_tag (get_or bytes 1 0) bytes else Err unread.Length)
     else Err unread.Version
 
 -- the message that was read, if it ends in a code

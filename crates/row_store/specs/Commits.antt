@@ -38,7 +38,8 @@ rows_in decoded v = seen_in decoded v.cells v.held
 -- A commit of a row to a cell: done, or found worn, or broken off. At every moment each image shows the rows before it or
 -- those after it. Unless the cell is worn, it fills the next slot with the one spelling of the row. If it was made, it used
 -- four calls or six. A worn cell's storage is not called.
-pub record CommitsRow {R : Type 0} (tells : Type 0) (decoded : ℕ → List ℕ → Option R) (spelled : ℕ → R → List ℕ) (size cell : ℕ) (x : R) (old new : RowView) (result : Result (Unit {0}) StoreFail) : Type 0 where
+pub record CommitsRow {R : Type 0} (tells : Type 0) (decoded : ℕ → List ℕ → Option R) (spelled : ℕ → R → List ℕ) (size cell : ℕ) (x : R)
+    (old new : RowView) (result : Result (Unit {0}) StoreFail) : Type 0 where
   pub done : OnOk result (rows_in decoded new ≡ put (rows_in decoded old) cell x)
   pub stays : OnErr result (rows_in decoded new ≡ rows_in decoded old)
   pub not_failed : IsErrOf result Failed → ⊥

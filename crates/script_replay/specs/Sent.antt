@@ -18,5 +18,5 @@ module _ (n : Nodes) where
   sent_few old new (d ∷ rest) did =
       let entries = did.1.turn.entries in
       let more : length did.0.bench.messages ≡ length old.bench.messages + length (notes_in entries) = ap
-          (λ (l : List (List ℕ)). length l) did.1.steps.always.sends ∙ length-append old.bench.messages (notes_in entries) in
+      (λ (l : List (List ℕ)). length l) did.1.steps.always.sends ∙ length-append old.bench.messages (notes_in entries) in
       omega (arith, more, one_note (sent_in entries), sent_few did.0 new rest did.2)

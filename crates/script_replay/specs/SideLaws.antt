@@ -39,17 +39,18 @@ module _ (n : Nodes) where
   quiet s t d turn did is =
       let always = did.0.steps.always in
       let gets : MayGet (ev.ScanHex is.0 is.1) did.0.turn.reply = subst
-          (λ (e : Event). MayGet (as_given s.bench.messages e) did.0.turn.reply) is.2 always.reply in
+      (λ (e : Event). MayGet (as_given s.bench.messages e) did.0.turn.reply) is.2 always.reply in
       let same : t.bench.messages ≡ s.bench.messages =
       always.sends ∙ ap (λ (l : List (List ℕ)). s.bench.messages ++ l) (always.quiet (scan_names is.0 is.1 did.0.turn.reply gets))
-          ∙ append-nil s.bench.messages in
+      ∙ append-nil s.bench.messages in
       let as_many = ap (λ (l : List (List ℕ)). length l) same in omega (arith, as_many)
 
 pub wants_none : {D C H V : Type 0} (s t : Scene D C H V) → Leaves (Run status.Memory) s t → length t.bench.messages ≤ length s.bench.messages
 wants_none s t wants = let same = ap (λ (b : Bench _ _ _ _). length b.messages) wants.0 in omega (arith, same)
 
 -- what the end of a run with an extension leaves of the bench
-pub leaves_as : {D C H V K : Type 0} (outcome : SideStatus) (behind now : World (Scene D C H V) K) → SideLeaves (λ s t. Leaves (Run status.Memory) s t) outcome behind now
+pub leaves_as : {D C H V K : Type 0} (outcome : SideStatus) (behind now : World (Scene D C H V) K)
+    → SideLeaves (λ s t. Leaves (Run status.Memory) s t) outcome behind now
     → (s : Status) × Leaves (Run s) behind.scene now.scene
 leaves_as (Run status.Done) behind now is = (status.Done, ap (λ (w : World _ _). w.scene) is)
 leaves_as (Run status.Words) behind now is = (status.Words, ap (λ (w : World _ _). w.scene) is)

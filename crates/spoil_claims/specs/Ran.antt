@@ -30,7 +30,8 @@ use Rattle.spoil_claims.specs.declared.desk.Desk.{Desk}
 -- claims that are kept then, or these with the one commit in hand. Suppose that the bench represented a history, and that the claims of earlier runs
 -- are backed by it. Then the claims that are kept at each line hold by the ledger so far, and `credits` is answered by it, up to the first forged
 -- event. If nothing was forged, the claims without the commit in doubt and those with it hold by the ledger that the steps leave.
-pub record DidClaims (n : Nodes) {N : Type 0} (own : nv.Ghosts N) (old new : World (SceneOf n) (Desk N own)) (outcome : SideStatus) (trace : List (SideStep ClaimLine)) : Type 0 where
+pub record DidClaims (n : Nodes) {N : Type 0} (own : nv.Ghosts N) (old new : World (SceneOf n) (Desk N own)) (outcome : SideStatus)
+    (trace : List (SideStep ClaimLine)) : Type 0 where
   pub side : DidSide n (claims_desk own) old new outcome trace
   pub answers : AreAnswered (rows_of old.desk) trace (rows_of new.desk)
   pub follows : (τ : Tariff) (L : Ledger) → IsOfTexts τ → StandsFor n τ old.scene.bench L → n.storage.tells → AreBacked (rows_of old.desk) L

@@ -262,9 +262,20 @@ ordinary_steps =
     ∷ record { event = ev.Print 1; text = []; reply = r.Printed 1 }
     ∷ record { event = ev.Close 1; text = []; reply = r.Closed 1 }
     ∷ record { event = ev.ScanMsg 1 8; text = []; reply = r.Accepted 1 1 1 false }
-    ∷ record { event = ev.Status 1; text = [];
-        reply = r.Status 1 (record { phase = InService; ascending = 550; descending = 49450; refunded = 0; pieces = 1; number = 3;
-        deadline = pos 20605; pending = None }) }
+    ∷ record {
+      event = ev.Status 1;
+      text = [];
+      reply = r.Status 1 (record {
+        phase = InService;
+        ascending = 550;
+        descending = 49450;
+        refunded = 0;
+        pieces = 1;
+        number = 3;
+        deadline = pos 20605;
+        pending = None;
+      });
+    }
     ∷ record { event = ev.Balance 1; text = []; reply = r.Balance 1 50000 }
     ∷ record { event = ev.Reconcile 1; text = []; reply = r.Reconciled 1 50000 50000 None }
     ∷ []
@@ -318,9 +329,20 @@ refund_steps =
     ∷ record { event = ev.Deliver 8; text = []; reply = r.Ruled 1 4 Granted true 9 }
     ∷ record { event = ev.Deliver 9; text = []; reply = r.Applied 1 4 Granted }
     ∷ record { event = ev.Balance 1; text = []; reply = r.Balance 1 99450 }
-    ∷ record { event = ev.Status 1; text = [];
-        reply = r.Status 1 (record { phase = InService; ascending = 550; descending = 0; refunded = 49450; pieces = 1; number = 4;
-        deadline = pos 20605; pending = None }) }
+    ∷ record {
+      event = ev.Status 1;
+      text = [];
+      reply = r.Status 1 (record {
+        phase = InService;
+        ascending = 550;
+        descending = 0;
+        refunded = 49450;
+        pieces = 1;
+        number = 4;
+        deadline = pos 20605;
+        pending = None;
+      });
+    }
     ∷ []
 
 abbrev pub refund_ledger : Ledger

@@ -58,9 +58,20 @@ today_steps =
     ∷ record { event = ev.Ask 1 Audit 0 0; text = []; reply = r.SentRequest 1 4 9 }
     ∷ record { event = ev.Deliver 9; text = []; reply = r.Ruled 1 4 Granted false 10 }
     ∷ record { event = ev.Deliver 10; text = []; reply = r.Applied 1 4 Granted }
-    ∷ record { event = ev.Status 1; text = [];
-        reply = r.Status 1 (record { phase = InService; ascending = 1550; descending = 48450; refunded = 0; pieces = 2; number = 4;
-        deadline = pos 20698; pending = None }) }
+    ∷ record {
+      event = ev.Status 1;
+      text = [];
+      reply = r.Status 1 (record {
+        phase = InService;
+        ascending = 1550;
+        descending = 48450;
+        refunded = 0;
+        pieces = 2;
+        number = 4;
+        deadline = pos 20698;
+        pending = None;
+      });
+    }
     ∷ []
 
 abbrev pub today_ledger : Ledger

@@ -99,14 +99,16 @@ used_in (Ok step) = Ok step.rates
 used_in (Err v) = Err v
 
 -- What is judged of the line of this number, whatever follows what was read.
-pub record IsTurn (number : ℕ) (rates : List ℕ) (old new : Audit) (before after : List Imprint) (script0 script1 report0 report1 : Option (List ℕ)) (result : Result Step Verdict) : Type 0 where
+pub record IsTurn (number : ℕ) (rates : List ℕ) (old new : Audit) (before after : List Imprint) (script0 script1 report0 report1 : Option (List ℕ))
+    (result : Result Step Verdict) : Type 0 where
   pub script : IsRead script0 script1
   pub report : IsRead report0 report1
   pub goes_on : SeesEnds result script.is_all report.is_all
   pub so : OfTexts script (λ text lines. OfTexts report (λ answers told. TurnsSo number text lines answers told rates old new before after (used_in result)))
 
 -- So many lines were paired, whatever follows what was read.
-pub record IsProgress (count : ℕ) (rates0 rates : List ℕ) (old new : Audit) (before after : List Imprint) (script0 script1 report0 report1 : Option (List ℕ)) : Type 0 where
+pub record IsProgress (count : ℕ) (rates0 rates : List ℕ) (old new : Audit) (before after : List Imprint)
+    (script0 script1 report0 report1 : Option (List ℕ)) : Type 0 where
   pub script : List ℕ
   pub report : List ℕ
   pub script_read : Consumes script0 script1 script

@@ -207,7 +207,8 @@ pub record Audited (v : Verdict) (script report rates : List ℕ) (old new : Aud
       (last_given (length says.pairs + 1) says.rest says.told v says.falls))
 
 -- WHAT AN AUDIT SAYS OF WHAT IT READ: it holds whatever follows that in the script and in the report, which is nothing if the end was seen.
-pub record AuditedOf (v : Verdict) (script0 script1 report0 report1 : Option (List ℕ)) (rates : List ℕ) (old new : Audit) (before after : List Imprint) : Type 0 where
+pub record AuditedOf (v : Verdict) (script0 script1 report0 report1 : Option (List ℕ)) (rates : List ℕ) (old new : Audit)
+    (before after : List Imprint) : Type 0 where
   pub script : IsRead script0 script1
   pub report : IsRead report0 report1
   pub so : OfTexts script (λ text lines. OfTexts report (λ answers told. Audited v text answers rates old new before after))
