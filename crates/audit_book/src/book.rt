@@ -604,8 +604,8 @@ impl Book {
         self.void(rt, names, place, made)
     }
 
-    /// Sees what this line shows of a commit: it counts, is in doubt until its node comes on, or was not made. BookFault::Write if standard output takes no more,
-    /// BookFault::Memory is lack of memory.
+    /// Sees what this line shows of a commit: it counts, is in doubt until its node comes on, or was not made. BookFault::Write if standard
+    /// output takes no more, BookFault::Memory is lack of memory.
     pub fn settle(
         &mut self,
         rt: &HostRuntime,

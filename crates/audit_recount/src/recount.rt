@@ -118,7 +118,8 @@ fn tell_print(
 }
 
 impl Recount {
-    /// A clerk that went over no run, and a journal of this form. What is sent and released is kept, or not, which what is counted does not need. AllocError is lack of memory.
+    /// A clerk that went over no run, and a journal of this form. What is sent and released is kept, or not, which what is counted does not
+    /// need. AllocError is lack of memory.
     pub fn new(alloc: Global, form: Form, is_kept: bool) -> Result<Recount, AllocError>
         ensures ready { IfOk result (λ c. IsReady (audit_of c.auditor)) }
     {

@@ -64,7 +64,8 @@ fn node_at(place: u32) -> Node {
     }
 }
 
-/// What went wrong if the line is not that of the answer that was due; `printing` is the job that was to be printed. None if it reports only that a commit in doubt counts.
+/// What went wrong if the line is not that of the answer that was due; `printing` is the job that was to be printed. None if it reports
+/// only that a commit in doubt counts.
 pub fn mishap_at(printing: Option<u32>, line: &[u8]) -> Option<Mishap> {
     if let Some(job) = printing {
         if is_told(&Reply::PrinterFault(job), line) {

@@ -32,8 +32,8 @@ ReadsAudit (Ok Help) = ⊥
 ReadsAudit (Ok Version) = ⊥
 ReadsAudit (Err fault) = Unit {0}
 
--- WHAT WORDS CALL FOR: for help, if one of them is `--help`; otherwise for the version, if one is `--version`; otherwise for a look at a script, if one is `--check`; and
--- otherwise for an audit.
+-- WHAT WORDS CALL FOR: for help, if one of them is `--help`; otherwise for the version, if one is `--version`; otherwise for a look at a
+-- script, if one is `--check`; and otherwise for an audit.
 pub record Reads (words : List (List ℕ)) (result : Result Call WordsFault) : Type 0 where
   pub help : Contains words (codes "--help") → result ≡ Ok Help
   pub version : (Contains words (codes "--help") → ⊥) → Contains words (codes "--version") → result ≡ Ok Version

@@ -77,7 +77,8 @@ abbrev pub sum_of : Option ℕ → Option ℕ → Option ℕ
 sum_of (Some a) (Some b) = Some (a + b)
 sum_of a b = None
 
--- the postage of each acceptance, by the debits before it: a piece counts as often as it was accepted, and there is no sum where one was accepted without a debit
+-- the postage of each acceptance, by the debits before it: a piece counts as often as it was accepted, and there is no sum where one was
+-- accepted without a debit
 abbrev pub accepted_postage : ℕ → List Commit → Option ℕ
 accepted_postage d [] = Some 0
 accepted_postage d (Accepted e piece scan ∷ C) = if e == d then sum_of (accepted_postage d C) (postage_of d piece C) else accepted_postage d C

@@ -123,7 +123,8 @@ fn too_long(rt: &HostRuntime, file: &str) -> Fault {
     }
 }
 
-// The rates in this open file. A longer one is refused: a run with more than 16 `rates` could take more of it than is read, and a lawful report would be called wrong.
+// The rates in this open file. A longer one is refused: a run with more than 16 `rates` could take more of it than is read, and a lawful
+// report would be called wrong.
 fn all_rates(rt: &HostRuntime, file: &str, opened: File) -> Result<Vec<u8>, Fault> {
     let rates = first_bytes(rt, file, opened, MOST_RATES + 1)?;
     if rates.len() as u64 > MOST_RATES {

@@ -61,7 +61,8 @@ pub record IsPassed (line : List ℕ) : Type 0 where
 
 -- == the end ==
 
--- What is wrong with the end of a script, which begins with the line of this number: these bytes were taken for it, and is_all says that the script has none after them.
+-- What is wrong with the end of a script, which begins with the line of this number: these bytes were taken for it, and is_all says that
+-- the script has none after them.
 pub data EndHas (number : ℕ) (is_all : Type 0) (bytes : List ℕ) : List Report → Type 0 where
   -- `end`, and nothing after it; or more
   ends : bytes ≡ ended (codes "end") → is_all → EndHas number is_all bytes []

@@ -19,9 +19,9 @@ use Rattle.script_replay.specs.Run.{Unforged, Moves, Prints}
 use Rattle.script_replay.specs.Streams.{Streams}
 use Rattle.script_replay.specs.Throughout.{IsAllPaid}
 
--- The steps are right from the empty ledger on, by what this tariff reads in rates. Up to the first event that takes something forged from outside, each reply is one that its
--- event may get at the ledger so far, and each printed line is the mark of its event. If no event does, the ledger that they leave is lawful,
--- and at each moment accepted mail was franked, and franked mail was bought.
+-- The steps are right from the empty ledger on, by what this tariff reads in rates. Up to the first event that takes something forged from
+-- outside, each reply is one that its event may get at the ledger so far, and each printed line is the mark of its event. If no event does,
+-- the ledger that they leave is lawful, and at each moment accepted mail was franked, and franked mail was bought.
 pub record AreRight (τ : Tariff) (steps : List StepRecord) : Type 0 where
   pub replies : RunWhile τ Unforged (Moves τ) (Begin ∷ []) steps
   pub prints : RunWhile τ Unforged (Prints τ) (Begin ∷ []) steps

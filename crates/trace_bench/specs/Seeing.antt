@@ -72,7 +72,8 @@ pub record SeesRun (a : Audit) (H : Ledger) : Type 0 where
   pub host : host.view_of a.host ≡ view_in Host (bench_kinds.host.seen tt) H
   pub verifier : verifier.view_of a.verifier ≡ view_in Verifier (bench_kinds.verifier.seen tt) H
 
--- WHAT THE AUDITOR HAS is what the ledger shows: of the run, of each node, of what was sent and released in all runs, if it keeps that, and of the marks that were seen
+-- WHAT THE AUDITOR HAS is what the ledger shows: of the run, of each node, of what was sent and released in all runs, if it keeps that, and
+-- of the marks that were seen
 pub record Sees (a : Audit) (H : Ledger) : Type 0 where
   pub run : SeesRun a H
   pub known : Knows a.known H

@@ -132,8 +132,9 @@ fn gives_forged(auditor: &Auditor, node: &Node, bytes: &[u8]) -> bool
     }
 }
 
-/// Puts what was sent and released since it was last asked for to where each is found by its hash, if `is_forged` asks for it of this event. What the auditor has stays
-/// the same, also where there is no memory; and so does what `is_forged` answers, which walks whatever was not put there.
+/// Puts what was sent and released since it was last asked for to where each is found by its hash, if `is_forged` asks for it of this
+/// event. What the auditor has stays the same, also where there is no memory; and so does what `is_forged` answers, which walks whatever
+/// was not put there.
 pub fn index(alloc: Global, auditor: &mut Auditor, event: &Event) -> Result<(), AllocError>
     requires ready { IsReady (audit_of auditor.old) }
     ensures ready { IsReady (audit_of auditor.new) }

@@ -42,7 +42,8 @@ pub enum Finding {
     Memory,
 }
 
-/// What is heard of an event by its line: the message that it sent, the mark that it released, how much of the rates it took, in bytes, and the device that it was for.
+/// What is heard of an event by its line: the message that it sent, the mark that it released, how much of the rates it took, in bytes, and
+/// the device that it was for.
 #[derive(Clone, Copy)]
 pub struct Heard {
     pub sent: Option<Note>,

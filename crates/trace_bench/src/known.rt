@@ -1,4 +1,5 @@
-//! What was sent and released in all runs: kept as it comes, and found by its bytes once it is asked for. And which of the marks that were seen on mail were debited.
+//! What was sent and released in all runs: kept as it comes, and found by its bytes once it is asked for. And which of the marks that were
+//! seen on mail were debited.
 ghost use Rattle.std.specs.Prelude.{◌≡◌, ◌↔◌, ◌||◌, ℕ, List, [], IsTrue, OnOk};
 ghost use Rattle.trace_bench.specs.Known as known;
 ghost use Rattle.trace_bench.specs.Known.{Learns, Puts, HasSame, IsAllFound, IsBlank, has_by, is_among, kept_of};

@@ -115,7 +115,8 @@ fn begins_both_ups(auditor: &Auditor, due: &Reply, prefix: &[u8]) -> bool
     begins(due, prefix) && other_up(auditor, due, prefix).is_some()
 }
 
-/// The answer that is due to the event, which the auditor leaves as it was: no reply has a line end in its line. AllocError is lack of memory, for rates or a message.
+/// The answer that is due to the event, which the auditor leaves as it was: no reply has a line end in its line. AllocError is lack of
+/// memory, for rates or a message.
 pub fn due_to(
     alloc: Global,
     auditor: &mut Auditor,

@@ -45,7 +45,8 @@ abbrev pub IsGivenAt : ℕ → List ℕ → Option (List ℕ) → Option Given �
 IsGivenAt j prefix None given = given ≡ None
 IsGivenAt j prefix (Some mark) given = (taken : Printed) × IsTaken j prefix taken × (given ≡ Some (record { mark = mark; taken = taken }))
 
--- What the printer was given where the report ends with this prefix of the event's line: in a `print` the mark that its plan prints, if it prints one; and nothing in any other event.
+-- What the printer was given where the report ends with this prefix of the event's line: in a `print` the mark that its plan prints, if it
+-- prints one; and nothing in any other event.
 pub record IsLeftOpen (τ : Tariff) (H : Ledger) (e : Event) (prefix : List ℕ) (given : Option Given) : Type 0 where
   pub print : (j : ℕ) → e ≡ ev.Print j → IsGivenAt j prefix (print_of (plan τ todays_rules H (ev.Print j) []).after) given
   pub other : ((j : ℕ) → e ≢ ev.Print j) → given ≡ None

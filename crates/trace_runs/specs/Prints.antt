@@ -9,7 +9,8 @@ use Rattle.trace_runs.specs.declared.imprint.Printed.TheVariants.{Whole, Failed,
 use Rattle.trace_runs.specs.declared.prints.Match.{Match}
 use Rattle.trace_runs.specs.declared.prints.Match.TheVariants.{Fit, Differ, Open}
 
--- The printer took the whole line of a mark; it failed in it, and took a prefix that isn't all of it; or the run was stopped there, and it took none, some or all of it.
+-- The printer took the whole line of a mark; it failed in it, and took a prefix that isn't all of it; or the run was stopped there, and it
+-- took none, some or all of it.
 abbrev pub Took : Printed → List ℕ → List ℕ → Type 0
 Took Whole mark piece = piece ≡ print_line mark
 Took Failed mark piece = IsCutOff piece (print_line mark)

@@ -109,7 +109,8 @@ fn hear<R: Source>(
     }
 }
 
-// Reads and judges what the report has for the event of the line of this number, once what the event asks for of all runs is found by its hash: how much of the rates it took, in bytes.
+// Reads and judges what the report has for the event of the line of this number, once what the event asks for of all runs is found by its
+// hash: how much of the rates it took, in bytes.
 pub(crate) fn answer<R: Source>(
     alloc: Global,
     auditor: &mut Auditor,

@@ -15,8 +15,8 @@ const LINE: usize = 129;
 pub enum Match {
     /// They are those of the imprints.
     Fit,
-    /// They aren't: they fit before the imprint in this place, counted from 0, and there is not its line; where it is the number of imprints, all fit, and bytes
-    /// are left over.
+    /// They aren't: they fit before the imprint in this place, counted from 0, and there is not its line; where it is the number of
+    /// imprints, all fit, and bytes are left over.
     Differ(usize),
     /// They fit before the imprint in this place. There the printer failed or the run was stopped; what is printed from there on is not judged.
     Open(usize),
