@@ -1,7 +1,6 @@
 -- Blank storages, as the first run finds them: they represent the empty ledger.
 use Rattle.std.proofs.Common.{◌≡◌, inl, ℕ, List, [], replicate, Some, false, refl, sym, ◌∙◌, subst}
-use Rattle.bench_base.specs.declared.words.Node.{Node}
-use Rattle.bench_base.specs.declared.words.Node.TheVariants.{Device, Centre, Host, Verifier}
+use Rattle.bench_base.specs.declared.{words.Node.Node, words.Node.TheVariants.Device, words.Node.TheVariants.Centre, words.Node.TheVariants.Host, words.Node.TheVariants.Verifier}
 use Rattle.bench_base.specs.Ledger.{is_on}
 use Rattle.nv_model.specs.declared.nv.Nv as nv
 use Rattle.node_acts.specs.Kinds.{view_in}

@@ -1,17 +1,14 @@
 -- The acts of the centre's calls: what they change, and how they are reported.
 use Rattle.std.proofs.Common.{◌≢◌, ℕ, List, Option, Some, None, refl, inl, inr, arith}
-use Rattle.bench_base.specs.declared.words.Node.TheVariants.{Centre}
-use Rattle.bench_base.specs.declared.refusals.CentreRefusal.{CentreRefusal}
+use Rattle.bench_base.specs.declared.{words.Node.TheVariants.Centre, refusals.CentreRefusal.CentreRefusal}
 use Rattle.bench_base.specs.declared.events.Event.TheVariants as ev
 use Rattle.bench_base.specs.declared.events.Reply.TheVariants as r
 use Rattle.node_acts.specs.Plans.{IsOfNode}
 use Rattle.node_acts.proofs.OfCommits.{of_commit, commit_says}
 use Rattle.node_storage.specs.declared.node.Node.{Ghosts}
 use Rattle.node_storage.specs.Shown.{IsFitting}
-use Rattle.centre_ledger.specs.declared.rows.Row.{Row}
-use Rattle.centre_ledger.specs.declared.rows.CustomerRow.{CustomerRow}
+use Rattle.centre_ledger.specs.declared.{rows.Row.Row, rows.CustomerRow.CustomerRow, taking.CentreAnswer.CentreAnswer}
 use Rattle.psd_wire.specs.Grammar.{read}
-use Rattle.centre_ledger.specs.declared.taking.CentreAnswer.{CentreAnswer}
 use Rattle.centre_ledger.specs.declared.taking.CentreAnswer.TheVariants as answer
 use Rattle.centre_ledger.specs.Acts as acts
 use Rattle.centre_ledger.specs.Acts.{CentreAct, in_books, left_act}

@@ -1,8 +1,7 @@
 -- What holds of each node of a bench, whatever its kind.
 use Rattle.std.proofs.Common.{◌≡◌, ◌≢◌, ℕ, ◌+◌, Some, refl, sym, ◌∙◌, ap, subst, ⊎_elim, length}
 use Rattle.std.specs.Prelude.{slice_get}
-use Rattle.bench_base.specs.declared.words.Node.{Node}
-use Rattle.bench_base.specs.declared.words.Node.TheVariants.{Device, Centre, Host, Verifier}
+use Rattle.bench_base.specs.declared.{words.Node.Node, words.Node.TheVariants.Device, words.Node.TheVariants.Centre, words.Node.TheVariants.Host, words.Node.TheVariants.Verifier}
 use Rattle.bench.specs.Benches.{Bench, Nodes, OneKind, OfName, OfState, OfChange, By, Of, At, devices, centre, host, verifier, BenchOf}
 use Rattle.bench.proofs.Events.{same_or_not}
 use Rattle.bench.proofs.Sets.{same_some}

@@ -1,13 +1,10 @@
 -- The acts of the host's calls: what they change, how they are reported, and what is printed of them.
 use Rattle.std.proofs.Common.{◌≢◌, ℕ, List, Option, Some, None, refl, inr, ap, subst, arith}
 use Rattle.std.proofs.lemmas.Option.{same_Some}
-use Rattle.bench_base.specs.declared.words.Node.TheVariants.{Host}
-use Rattle.bench_base.specs.declared.refusals.HostRefusal.{HostRefusal}
+use Rattle.bench_base.specs.declared.{words.Node.TheVariants.Host, refusals.HostRefusal.HostRefusal}
 use Rattle.bench_base.specs.declared.events.Event.TheVariants as ev
 use Rattle.bench_base.specs.declared.events.Reply.TheVariants as r
-use Rattle.node_acts.specs.declared.act.Act.TheVariants.{Refuse, Tell, Commits}
-use Rattle.node_acts.specs.declared.said.Said.{Said}
-use Rattle.node_acts.specs.declared.said.Printed.{Printed as Print}
+use Rattle.node_acts.specs.declared.{act.Act.TheVariants.Refuse, act.Act.TheVariants.Tell, act.Act.TheVariants.Commits, said.Said.Said, said.Printed.Printed as Print}
 use Rattle.node_acts.specs.Acts.{TellsOf}
 use Rattle.node_acts.proofs.OfCommits.{of_commit, commit_says}
 use Rattle.node_storage.specs.declared.node.Node.{Ghosts}

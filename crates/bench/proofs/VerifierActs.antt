@@ -1,9 +1,7 @@
 -- The acts of the verifier's calls: what they change, and how they are reported.
 use Rattle.std.proofs.Common.{◌≢◌, ℕ, ℤ, List, Bool, true, false, Option, Some, None, Result, Ok, Err, refl, inr, arith}
 use Rattle.std.specs.Prelude.{is_some}
-use Rattle.bench_base.specs.declared.words.Node.TheVariants.{Verifier}
-use Rattle.bench_base.specs.declared.refusals.MarkFault.{MarkFault}
-use Rattle.bench_base.specs.declared.refusals.ScanRefusal.{ScanRefusal}
+use Rattle.bench_base.specs.declared.{words.Node.TheVariants.Verifier, refusals.MarkFault.MarkFault, refusals.ScanRefusal.ScanRefusal}
 use Rattle.bench_base.specs.declared.events.Event.TheVariants as ev
 use Rattle.bench_base.specs.declared.events.Reply.TheVariants as r
 use Rattle.bench_base.proofs.Rows.{chosen}
@@ -15,9 +13,7 @@ use Rattle.node_turns.proofs.Calls.{IsCallOf, IsToldBy, MayRefuse}
 use Rattle.indicium.specs.declared.Mark.{Mark}
 use Rattle.indicium.specs.Marks.{read_mark}
 use Rattle.psd_wire.specs.Codes.{has_code}
-use Rattle.verifier.specs.declared.acts.Accepted.{Accepted}
-use Rattle.verifier.specs.declared.acts.Change.{Change}
-use Rattle.verifier.specs.declared.acts.Spot.{Spot}
+use Rattle.verifier.specs.declared.{acts.Accepted.Accepted, acts.Change.Change, acts.Spot.Spot}
 use Rattle.verifier.specs.Acts as acts
 use Rattle.verifier.specs.Acts.{ScanAct}
 use Rattle.verifier.specs.ActLaws.{IsFit, LeavesSound, SoundActs}

@@ -1,12 +1,9 @@
 -- What contracts see of a bench, and when it represents a ledger. A kind of nodes is a field of `Bench`, of `Stores` and of
 -- `Nodes`, and a row of `At`, `Of`, `By` and `store_of`. Everything besides these refers to a node by its name.
 use Rattle.std.specs.Prelude.{◌≡◌, ℕ, ℤ, ◌+◌, zero, suc, false, List, [], Option, Some, None, length, replicate, slice_get}
-use Rattle.bench_base.specs.declared.words.Node.{Node}
-use Rattle.bench_base.specs.declared.words.Node.TheVariants.{Device, Centre, Host, Verifier}
-use Rattle.bench_base.specs.declared.sizes.TheConstants.{DEVICE_BYTES, CENTRE_BYTES, VERIFIER_BYTES}
+use Rattle.bench_base.specs.declared.{words.Node.Node, words.Node.TheVariants.Device, words.Node.TheVariants.Centre, words.Node.TheVariants.Host, words.Node.TheVariants.Verifier, sizes.TheConstants.DEVICE_BYTES, sizes.TheConstants.CENTRE_BYTES, sizes.TheConstants.VERIFIER_BYTES, events.Event.Event}
 use Rattle.host_jobs.specs.declared.sizes.TheConstants.{HOST_BYTES}
 use Rattle.bench_base.specs.Rules.{editions}
-use Rattle.bench_base.specs.declared.events.Event.{Event}
 use Rattle.bench_base.specs.Ledger.{Ledger, day_in, rates_in, is_on}
 use Rattle.nv_model.specs.declared.nv.Nv as nv
 use Rattle.nv_model.specs.declared.fuse.Fuse as fuse
@@ -23,15 +20,11 @@ use Rattle.host_rates.specs.Tables.{RateTable}
 use Rattle.host_rates.specs.Tariffs.{Keeps}
 use Rattle.ledger_moves.specs.Tariffs.{Tariff}
 use Rattle.ledger_moves.specs.Histories.{History, Unforged}
-use Rattle.bench_abstraction.specs.declared.calls.DeviceCall.{DeviceCall}
-use Rattle.bench_abstraction.specs.declared.calls.CentreCall.{CentreCall}
-use Rattle.bench_abstraction.specs.declared.calls.HostCall.{HostCall}
-use Rattle.bench_abstraction.specs.declared.calls.VerifierCall.{VerifierCall}
+use Rattle.bench_abstraction.specs.declared.{calls.DeviceCall.DeviceCall, calls.CentreCall.CentreCall, calls.HostCall.HostCall, calls.VerifierCall.VerifierCall}
 use Rattle.bench_abstraction.specs.Kinds.{Kinds}
 use Rattle.bench_abstraction.specs.Messages.{sent_in}
 use Rattle.bench_abstraction.specs.Tariff.{IsOfTexts}
-use Rattle.bench.specs.declared.stores.Stores.{Stores}
-use Rattle.bench.specs.declared.benches.BenchOver.{BenchOver}
+use Rattle.bench.specs.declared.{stores.Stores.Stores, benches.BenchOver.BenchOver}
 
 -- the day, the messages of the run in the order in which they were sent, the rates that were read last, the devices (number
 -- i is device i + 1), and the nodes that occur once

@@ -1,8 +1,7 @@
 //! Eight devices, the centre, the host and the verifier, each in its place; the day, the rates and the messages of the run.
 ghost use Rattle.std.specs.Prelude.{◌≡◌, ◌≤◌, ◌<◌, ◌+◌, [], ◌∷◌, ◌++◌, Some, None, length, slice_get, IfOk, IfErr};
 ghost use Rattle.std.specs.Vec.{vec_capacity};
-ghost use Rattle.bench_base.specs.declared.ledger.Entry.TheVariants.{Begin};
-ghost use Rattle.bench_base.specs.declared.words.Node.{Node as NodeNo};
+ghost use Rattle.bench_base.specs.declared.{ledger.Entry.TheVariants.Begin, words.Node.Node as NodeNo};
 ghost use Rattle.bench_base.specs.Ledger.{Ledger};
 ghost use Rattle.bench_abstraction.specs.Kinds.{bench_kinds};
 ghost use Rattle.bench.specs.declared.benches.TheConstants.{MOST_MESSAGES};

@@ -1,12 +1,7 @@
 -- What the host is called for: its plan, its commit, and what is seen of it afterwards.
 use Rattle.std.proofs.Common.{◌≡◌, ℕ, ℤ, List, [], Option, Some, None, Result, Ok, Err, refl, sym, ◌∙◌, ap}
 use Rattle.std.specs.Prelude.{length, slice_get}
-use Rattle.bench_base.specs.declared.words.Node.{Node}
-use Rattle.bench_base.specs.declared.words.Node.TheVariants.{Host}
-use Rattle.bench_base.specs.declared.refusals.HostRefusal.{HostRefusal}
-use Rattle.bench_base.specs.declared.refusals.RateRefusal.{RateRefusal}
-use Rattle.bench_base.specs.declared.ledger.Commit.{Commit}
-use Rattle.bench_base.specs.declared.events.Event.{Event}
+use Rattle.bench_base.specs.declared.{words.Node.Node, words.Node.TheVariants.Host, refusals.HostRefusal.HostRefusal, refusals.RateRefusal.RateRefusal, ledger.Commit.Commit, events.Event.Event}
 use Rattle.bench_base.specs.declared.events.Reply.TheVariants as r
 use Rattle.bench_base.specs.Rules.{todays_rules}
 use Rattle.bench_base.specs.Nodes.{node_of}
@@ -15,10 +10,7 @@ use Rattle.bench_base.specs.Ranges.{IsDevice}
 use Rattle.bench_base.specs.Cells.{OfJob, place_of}
 use Rattle.bench_base.specs.Ledger.{Ledger, day_in, count_of, counted, message}
 use Rattle.bench_base.specs.Events.{IsWholeEvent}
-use Rattle.node_acts.specs.declared.act.Act.TheVariants.{Tell}
-use Rattle.node_acts.specs.declared.asked.Asked.{Asked}
-use Rattle.node_acts.specs.declared.asked.Asked.TheVariants.{Call}
-use Rattle.node_acts.specs.declared.said.Said.{Said}
+use Rattle.node_acts.specs.declared.{act.Act.TheVariants.Tell, asked.Asked.Asked, asked.Asked.TheVariants.Call, said.Said.Said}
 use Rattle.node_acts.specs.Plans.{IsOfNode}
 use Rattle.node_acts.specs.Kinds.{node_plan, OfCall}
 use Rattle.node_acts.specs.RowList.{commits_in}

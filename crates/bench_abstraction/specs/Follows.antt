@@ -1,10 +1,6 @@
 -- How the ledger and what the bench sees of its nodes go together: by an event of one node.
 use Rattle.std.specs.Prelude.{◌≡◌, ◌≢◌, ℕ, ℤ, ◌++◌, [], true, Option, Some, None, IfSome, option_map}
-use Rattle.bench_base.specs.declared.words.Node.{Node}
-use Rattle.bench_base.specs.declared.words.Node.TheVariants.{Device, Centre, Host, Verifier}
-use Rattle.bench_base.specs.declared.ledger.Commit.{Commit}
-use Rattle.bench_base.specs.declared.events.Event.{Event}
-use Rattle.bench_base.specs.declared.events.Reply.{Reply}
+use Rattle.bench_base.specs.declared.{words.Node.Node, words.Node.TheVariants.Device, words.Node.TheVariants.Centre, words.Node.TheVariants.Host, words.Node.TheVariants.Verifier, ledger.Commit.Commit, events.Event.Event, events.Reply.Reply}
 use Rattle.bench_base.specs.declared.events.Reply.TheVariants as r
 use Rattle.bench_base.specs.Rules.{todays_rules, editions}
 use Rattle.bench_base.specs.Nodes.{node_of}

@@ -1,7 +1,6 @@
 -- The messages of a run, as the ledger shows them to the bench: the first that was sent first.
 use Rattle.std.specs.Prelude.{ℕ, ◌≤◌, List, [], ◌∷◌, ◌++◌, length}
-use Rattle.bench_base.specs.declared.ledger.Entry.{Entry}
-use Rattle.bench_base.specs.declared.ledger.Entry.TheVariants.{Sent, Begin}
+use Rattle.bench_base.specs.declared.{ledger.Entry.Entry, ledger.Entry.TheVariants.Sent, ledger.Entry.TheVariants.Begin}
 use Rattle.bench_base.specs.Ledger.{Ledger}
 
 abbrev pub sent_in : Ledger → List (List ℕ)

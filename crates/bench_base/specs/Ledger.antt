@@ -1,9 +1,6 @@
 -- A ledger is a list of entries, the newest first. This is what the bench sees of it, and the commits in it that count.
 use Rattle.std.specs.Prelude.{◌≡◌, ℕ, ℤ, ◌+◌, Bool, true, false, List, [], ◌∷◌, Option, Some, None, ◌==◌, ◌⊎◌, if◌then◌else◌}
-use Rattle.bench_base.specs.declared.words.Node.{Node}
-use Rattle.bench_base.specs.declared.ledger.Commit.{Commit}
-use Rattle.bench_base.specs.declared.ledger.Entry.{Entry}
-use Rattle.bench_base.specs.declared.ledger.Entry.TheVariants.{Commit as Counts, Torn, Begin, Day, Rates, Sent, Released, Printed, Up, Down}
+use Rattle.bench_base.specs.declared.{words.Node.Node, ledger.Commit.Commit, ledger.Entry.Entry, ledger.Entry.TheVariants.Commit as Counts, ledger.Entry.TheVariants.Torn, ledger.Entry.TheVariants.Begin, ledger.Entry.TheVariants.Day, ledger.Entry.TheVariants.Rates, ledger.Entry.TheVariants.Sent, ledger.Entry.TheVariants.Released, ledger.Entry.TheVariants.Printed, ledger.Entry.TheVariants.Up, ledger.Entry.TheVariants.Down}
 use Rattle.bench_base.specs.Nodes.{same_node, node_of}
 
 -- a ledger, the newest entry first

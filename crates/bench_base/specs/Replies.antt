@@ -1,14 +1,8 @@
 -- What each reply states, what it reports besides, and which events may get it: three tables with a row for every reply.
 use Rattle.std.specs.Prelude.{◌≡◌, ◌≢◌, ◌⊎◌, ◌||◌, ℕ, Bool, true, false, List, Option, Some, None, is_some}
-use Rattle.bench_base.specs.declared.words.Kind.{Kind}
-use Rattle.bench_base.specs.declared.words.Node.{Node}
-use Rattle.bench_base.specs.declared.words.Node.TheVariants.{Device, Centre, Host, Verifier}
-use Rattle.bench_base.specs.declared.events.Event.{Event}
+use Rattle.bench_base.specs.declared.{words.Kind.Kind, words.Node.Node, words.Node.TheVariants.Device, words.Node.TheVariants.Centre, words.Node.TheVariants.Host, words.Node.TheVariants.Verifier, events.Event.Event, events.Reply.Reply, questions.Refusal.TheVariants.Device as OfDevice, questions.Refusal.TheVariants.Centre as OfCentre, questions.Refusal.TheVariants.Host as OfHost, questions.Refusal.TheVariants.Verifier as OfVerifier, questions.Report.Report}
 use Rattle.bench_base.specs.declared.events.Event.TheVariants as ev
-use Rattle.bench_base.specs.declared.events.Reply.{Reply}
 use Rattle.bench_base.specs.declared.events.Reply.TheVariants as r
-use Rattle.bench_base.specs.declared.questions.Refusal.TheVariants.{Device as OfDevice, Centre as OfCentre, Host as OfHost, Verifier as OfVerifier}
-use Rattle.bench_base.specs.declared.questions.Report.{Report}
 use Rattle.bench_base.specs.declared.questions.Report.TheVariants as report
 use Rattle.bench_base.specs.Nodes.{same_node}
 use Rattle.bench_base.specs.Events.{node_for, needs_day, needs_on, may_commit, IsAt}

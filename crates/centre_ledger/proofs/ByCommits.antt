@@ -3,19 +3,13 @@ use Rattle.std.proofs.Common.{◌≡◌, ℕ, pos, ◌+ℤ◌, Bool, true, false
 use Rattle.std.specs.Prelude.{◌&&◌, not, is_some, if◌then◌else◌}
 use Rattle.bench_base.specs.Kinds.{is_dated, same_kind}
 use Rattle.bench_base.specs.Rows.{first_holding}
-use Rattle.bench_base.specs.declared.words.Kind.TheVariants.{Enrol}
-use Rattle.bench_base.specs.declared.words.Verdict.{Verdict}
-use Rattle.bench_base.specs.declared.words.Verdict.TheVariants.{Granted, NotEnrolled}
-use Rattle.bench_base.specs.declared.ledger.Commit.{Commit}
+use Rattle.bench_base.specs.declared.{words.Kind.TheVariants.Enrol, words.Verdict.Verdict, words.Verdict.TheVariants.Granted, words.Verdict.TheVariants.NotEnrolled, ledger.Commit.Commit}
 use Rattle.psd_wire.specs.declared.message.Request.{Request}
 use Rattle.psd_wire.specs.declared.message.Message.TheVariants as m
 use Rattle.psd_wire.specs.Grammar.{spell}
 use Rattle.ledger_terms.specs.Centres.{registered, origin_in, key_in, enrolled, withdrawn, opened, suspended, balance}
 use Rattle.ledger_terms.specs.Rulings.{Account, account_of, verdict, verdict_by, verdict_rows, has_left, own_customer, payer, written_amount, reply_to, reply_note}
-use Rattle.centre_ledger.specs.declared.rows.DeviceRow.{DeviceRow}
-use Rattle.centre_ledger.specs.declared.rows.CustomerRow.{CustomerRow}
-use Rattle.centre_ledger.specs.declared.rows.Enrolment.{Enrolment}
-use Rattle.centre_ledger.specs.declared.rows.Enrolment.TheVariants.{Registered, Enrolled, Withdrawn}
+use Rattle.centre_ledger.specs.declared.{rows.DeviceRow.DeviceRow, rows.CustomerRow.CustomerRow, rows.Enrolment.Enrolment, rows.Enrolment.TheVariants.Registered, rows.Enrolment.TheVariants.Enrolled, rows.Enrolment.TheVariants.Withdrawn}
 use Rattle.centre_ledger.specs.Acts.{payer_in, own_left, verdict_in, ruled_in}
 use Rattle.centre_ledger.specs.Laws.{IsSlotOf, IsCustomerSlotOf}
 use Rattle.centre_ledger.specs.Order.{InOrder}

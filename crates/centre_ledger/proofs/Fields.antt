@@ -4,9 +4,7 @@ use Rattle.std.proofs.lemmas.List.{take_all, length-drop}
 use Rattle.bench_base.specs.Table.{One, Four, Eight, number, bytes_in, values}
 use Rattle.psd_wire.specs.Grammar.{sum_size}
 use Rattle.psd_wire.proofs.Readings.{byte_of}
-use Rattle.centre_ledger.specs.declared.rows.DeviceRow.{DeviceRow}
-use Rattle.centre_ledger.specs.declared.rows.Enrolment.{Enrolment}
-use Rattle.centre_ledger.specs.declared.rows.Enrolment.TheVariants.{Registered, Enrolled, Withdrawn}
+use Rattle.centre_ledger.specs.declared.{rows.DeviceRow.DeviceRow, rows.Enrolment.Enrolment, rows.Enrolment.TheVariants.Registered, rows.Enrolment.TheVariants.Enrolled, rows.Enrolment.TheVariants.Withdrawn}
 use Rattle.centre_ledger.specs.Rows.{customer_number}
 use Rattle.centre_ledger.specs.Payload.{state_byte, state_number, head_table}
 use Rattle.centre_ledger.specs.Parts.{state_from, enrolment_from, IsToldBy, HeadIs, bare_at, sum_at}

@@ -6,9 +6,7 @@ use Rattle.hmac_core.specs.Hmac.{hmac}
 use Rattle.hmac_core.proofs.Codes.{length_hmac}
 use Rattle.bench_base.specs.Rules.{IsVersion}
 use Rattle.bench_base.specs.Table.{Four, Eight, room}
-use Rattle.psd_wire.specs.declared.message.Request.{Request}
-use Rattle.psd_wire.specs.declared.message.ReplyMsg.{ReplyMsg}
-use Rattle.psd_wire.specs.declared.message.Message.{Message}
+use Rattle.psd_wire.specs.declared.{message.Request.Request, message.ReplyMsg.ReplyMsg, message.Message.Message}
 use Rattle.psd_wire.specs.declared.message.Message.TheVariants as m
 use Rattle.psd_wire.specs.Grammar.{IsWhole, IsCoded, body, spell, request_table, reply_table}
 use Rattle.psd_wire.proofs.Readings.{cut, one_body, request_room, reply_room, request_version, length_body_of, length_request, length_reply, reply_version}

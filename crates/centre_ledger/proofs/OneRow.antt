@@ -2,9 +2,7 @@
 use Rattle.std.proofs.Common.{◌≡◌, ℕ, ◌+◌, ◌<◌, ◌≤◌, List, ◌++◌, length, get_or, refl, sym, ap, ◌∙◌, arith, inl, inr, length-append}
 use Rattle.std.specs.Prelude.{◌⊎◌}
 use Rattle.bench_base.specs.Table.{room}
-use Rattle.centre_ledger.specs.declared.rows.DeviceRow.{DeviceRow}
-use Rattle.centre_ledger.specs.declared.rows.Row.{Row}
-use Rattle.centre_ledger.specs.declared.rows.Row.TheVariants.{Device, Customer}
+use Rattle.centre_ledger.specs.declared.{rows.DeviceRow.DeviceRow, rows.Row.Row, rows.Row.TheVariants.Device, rows.Row.TheVariants.Customer}
 use Rattle.centre_ledger.specs.Soundness.{IsSoundDevice}
 use Rattle.centre_ledger.specs.Payload.{sums_table, request_size, reply_size, end_size, head_part, sums_part, request_part, reply_part, end_part, device_spelled, device_bytes, DeviceFits, IsOld, DeviceReadsAs, RowReadsAs}
 use Rattle.centre_ledger.proofs.Parted.{Spells, state_low, state_is, parts_of, row_of_parts, size_request, size_reply, length_head, length_sums}

@@ -5,8 +5,7 @@ use Rattle.std.proofs.lemmas.List.{length-take-le, length-drop}
 use Rattle.bench_base.specs.Rules.{IsVersion}
 use Rattle.bench_base.specs.Table.{Four, Eight, room, IsBytes}
 use Rattle.bench_base.proofs.Tables.{values_fit}
-use Rattle.psd_wire.specs.declared.message.Request.{Request}
-use Rattle.psd_wire.specs.declared.message.ReplyMsg.{ReplyMsg}
+use Rattle.psd_wire.specs.declared.{message.Request.Request, message.ReplyMsg.ReplyMsg}
 use Rattle.psd_wire.specs.Grammar.{request_table}
 use Rattle.psd_wire.proofs.Readings.{request_room, length_request}
 use Rattle.centre_ledger.specs.declared.rows.DeviceRow.{DeviceRow}

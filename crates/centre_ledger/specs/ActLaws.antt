@@ -3,8 +3,7 @@ use Rattle.std.specs.Prelude.{◌≡◌, ℕ, Bool, List, [], ◌∷◌}
 use Rattle.bench_base.specs.Nodes.{node_of}
 use Rattle.bench_base.specs.Ranges.{IsDevice, IsCustomer, IsWord}
 use Rattle.bench_base.specs.Table.{IsBytes}
-use Rattle.bench_base.specs.declared.words.Node.TheVariants.{Centre}
-use Rattle.bench_base.specs.declared.ledger.Commit.{Commit}
+use Rattle.bench_base.specs.declared.{words.Node.TheVariants.Centre, ledger.Commit.Commit}
 use Rattle.node_acts.specs.Acts.{OfCommit}
 use Rattle.node_acts.specs.declared.act.Act.{Act}
 use Rattle.centre_ledger.specs.declared.rows.Row.{Row}

@@ -1,28 +1,18 @@
 -- What each call of the centre does, by what it looks up: in its rows, or in a list of commits. Amounts are in mills.
 use Rattle.std.specs.Prelude.{ℕ, ◌-◌, Bool, true, false, List, Option, Some, None, Result, Ok, Err, option_map, if◌then◌else◌}
-use Rattle.bench_base.specs.declared.words.Verdict.{Verdict}
-use Rattle.bench_base.specs.declared.refusals.Unread.{Unread}
+use Rattle.bench_base.specs.declared.{words.Verdict.Verdict, refusals.Unread.Unread, refusals.CentreRefusal.CentreRefusal}
 use Rattle.bench_base.specs.declared.refusals.Unread.TheVariants as unread
-use Rattle.bench_base.specs.declared.refusals.CentreRefusal.{CentreRefusal}
 use Rattle.bench_base.specs.declared.refusals.CentreRefusal.TheVariants as no
 use Rattle.bench_base.specs.declared.ledger.Commit.TheVariants as c
-use Rattle.node_acts.specs.declared.act.Act.{Act}
-use Rattle.node_acts.specs.declared.act.Act.TheVariants.{Refuse, Tell, Commits}
-use Rattle.psd_wire.specs.declared.message.Request.{Request}
-use Rattle.psd_wire.specs.declared.message.DoneMsg.{DoneMsg}
-use Rattle.psd_wire.specs.declared.message.Message.{Message}
+use Rattle.node_acts.specs.declared.{act.Act.Act, act.Act.TheVariants.Refuse, act.Act.TheVariants.Tell, act.Act.TheVariants.Commits}
+use Rattle.psd_wire.specs.declared.{message.Request.Request, message.DoneMsg.DoneMsg, message.Message.Message}
 use Rattle.psd_wire.specs.declared.message.Message.TheVariants as m
 use Rattle.psd_wire.specs.Codes.{has_code}
 use Rattle.psd_wire.specs.Grammar.{read}
 use Rattle.ledger_terms.specs.Sums.{adds, takes}
 use Rattle.ledger_terms.specs.Rulings.{verdict_by, payer, own_customer}
-use Rattle.centre_ledger.specs.declared.rows.DeviceRow.{DeviceRow}
-use Rattle.centre_ledger.specs.declared.rows.CustomerRow.{CustomerRow}
-use Rattle.centre_ledger.specs.declared.rows.Row.{Row}
+use Rattle.centre_ledger.specs.declared.{rows.DeviceRow.DeviceRow, rows.CustomerRow.CustomerRow, rows.Row.Row, acts.Deposit.Deposit, standing.Standing.Standing, taking.CentreAnswer.CentreAnswer}
 use Rattle.centre_ledger.specs.declared.rows.Row.TheVariants as row
-use Rattle.centre_ledger.specs.declared.acts.Deposit.{Deposit}
-use Rattle.centre_ledger.specs.declared.standing.Standing.{Standing}
-use Rattle.centre_ledger.specs.declared.taking.CentreAnswer.{CentreAnswer}
 use Rattle.centre_ledger.specs.declared.taking.CentreAnswer.TheVariants as centre
 use Rattle.centre_ledger.specs.Answers.{deposit_answer, turn_answer, settle_answer}
 use Rattle.centre_ledger.specs.Books.{Books, device_at, customer_at, left_in}

@@ -2,10 +2,7 @@
 -- are in mills.
 use Rattle.std.specs.Prelude.{◌≡◌, ℕ, ◌+◌, ◌-◌, ◌≤◌, All, List, length, map, get_or, set, replicate, Option, Some, None, IfSome, IsSome, ◌==◌, sum_by, if◌then◌else◌}
 use Rattle.bench_base.specs.Ranges.{IsWord}
-use Rattle.centre_ledger.specs.declared.rows.DeviceRow.{DeviceRow}
-use Rattle.centre_ledger.specs.declared.rows.CustomerRow.{CustomerRow}
-use Rattle.centre_ledger.specs.declared.rows.Row.{Row}
-use Rattle.centre_ledger.specs.declared.rows.Row.TheVariants.{Device, Customer}
+use Rattle.centre_ledger.specs.declared.{rows.DeviceRow.DeviceRow, rows.CustomerRow.CustomerRow, rows.Row.Row, rows.Row.TheVariants.Device, rows.Row.TheVariants.Customer}
 use Rattle.centre_ledger.specs.Rows.{enrolled_in, buys_in, returns_in}
 use Rattle.centre_ledger.specs.Soundness.{IsSoundDevice, IsSoundCustomer}
 

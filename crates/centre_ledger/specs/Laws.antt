@@ -1,22 +1,17 @@
 -- What one commit does to the rows of the centre, and what they show. The lists of commits have the newest first.
 use Rattle.std.specs.Prelude.{◌≡◌, ℕ, ◌+◌, Bool, false, List, [], ◌∷◌, Option, Some, None, Ok, ◌==◌, is_some, sum_by}
-use Rattle.bench_base.specs.declared.words.Verdict.{Verdict}
-use Rattle.bench_base.specs.declared.words.Node.TheVariants.{Centre}
-use Rattle.bench_base.specs.declared.ledger.Commit.{Commit}
-use Rattle.bench_base.specs.declared.ledger.Commit.TheVariants.{Registered, Opened, Deposited, Flagged, Ruled, Settled}
+use Rattle.bench_base.specs.declared.{words.Verdict.Verdict, words.Node.TheVariants.Centre, ledger.Commit.Commit, ledger.Commit.TheVariants.Registered, ledger.Commit.TheVariants.Opened, ledger.Commit.TheVariants.Deposited, ledger.Commit.TheVariants.Flagged, ledger.Commit.TheVariants.Ruled, ledger.Commit.TheVariants.Settled}
 use Rattle.bench_base.specs.Nodes.{node_of, same_node}
 use Rattle.bench_base.specs.Ranges.{IsWord, IsCustomer}
 use Rattle.bench_base.specs.Table.{IsBytes}
-use Rattle.psd_wire.specs.declared.message.Request.{Request}
-use Rattle.psd_wire.specs.declared.message.ReplyMsg.{ReplyMsg}
+use Rattle.psd_wire.specs.declared.{message.Request.Request, message.ReplyMsg.ReplyMsg}
 use Rattle.psd_wire.specs.declared.message.Message.TheVariants as m
 use Rattle.psd_wire.specs.Grammar.{read}
 use Rattle.ledger_terms.specs.Requests.{request_in}
 use Rattle.ledger_terms.specs.Centres.{registered, opened, device_numbers, customer_bought, customer_returned, balance}
 use Rattle.ledger_terms.specs.InFlight.{in_flight, acknowledged_resets, acknowledged_refunds}
 use Rattle.ledger_terms.specs.Rulings.{verdict, verdict_by, payer, own_customer, stored_reply, reply_note}
-use Rattle.centre_ledger.specs.declared.rows.DeviceRow.{DeviceRow}
-use Rattle.centre_ledger.specs.declared.rows.CustomerRow.{CustomerRow}
+use Rattle.centre_ledger.specs.declared.{rows.DeviceRow.DeviceRow, rows.CustomerRow.CustomerRow}
 use Rattle.centre_ledger.specs.Acts.{verdict_in, ruled_in, standing_of}
 use Rattle.centre_ledger.specs.Answers.{settle_answer, deposit_answer}
 use Rattle.centre_ledger.specs.Order.{InOrder}

@@ -1,17 +1,12 @@
 -- A device's row, part by part, as its payload shows it, and what is found of its messages.
 use Rattle.std.specs.Prelude.{◌≡◌, ℕ, ◌+◌, ◌-◌, ◌≤◌, true, List, [], Option, Some, None, Result, Ok, ◌==◌, if◌then◌else◌, length, take, drop, get_or, replicate}
 use Rattle.bench_base.specs.Table.{bytes_in, number, room, values}
-use Rattle.bench_base.specs.declared.words.Kind.TheVariants.{Reset}
+use Rattle.bench_base.specs.declared.{words.Kind.TheVariants.Reset, refusals.Unread.Unread}
 use Rattle.bench_base.specs.Kinds.{same_kind, empties, is_granted}
-use Rattle.bench_base.specs.declared.refusals.Unread.{Unread}
-use Rattle.psd_wire.specs.declared.message.Message.{Message}
+use Rattle.psd_wire.specs.declared.{message.Message.Message, message.Request.Request, message.ReplyMsg.ReplyMsg}
 use Rattle.psd_wire.specs.declared.message.Message.TheVariants as m
-use Rattle.psd_wire.specs.declared.message.Request.{Request}
-use Rattle.psd_wire.specs.declared.message.ReplyMsg.{ReplyMsg}
 use Rattle.psd_wire.specs.Grammar.{IsCoded, IsWhole, spell, sum_size}
-use Rattle.centre_ledger.specs.declared.rows.DeviceRow.{DeviceRow}
-use Rattle.centre_ledger.specs.declared.rows.Enrolment.{Enrolment}
-use Rattle.centre_ledger.specs.declared.rows.Enrolment.TheVariants.{Registered, Enrolled, Withdrawn}
+use Rattle.centre_ledger.specs.declared.{rows.DeviceRow.DeviceRow, rows.Enrolment.Enrolment, rows.Enrolment.TheVariants.Registered, rows.Enrolment.TheVariants.Enrolled, rows.Enrolment.TheVariants.Withdrawn}
 use Rattle.centre_ledger.specs.Rows.{customer_number}
 use Rattle.centre_ledger.specs.Soundness.{IsSoundDevice}
 use Rattle.centre_ledger.specs.Payload.{state_number, head_table, head, sums_table, request_size, reply_size, kept, request_part, reply_part, end_part, device_spelled, DeviceFits, IsOld}

@@ -7,9 +7,7 @@ use Rattle.nv_store.specs.Slot.{Held}
 use Rattle.nv_store.specs.Store.{count_of}
 use Rattle.node_storage.proofs.Called.{if_false}
 use Rattle.row_node.specs.Kept.{IsFilled, seen_by}
-use Rattle.centre_ledger.specs.declared.rows.DeviceRow.{DeviceRow}
-use Rattle.centre_ledger.specs.declared.rows.CustomerRow.{CustomerRow}
-use Rattle.centre_ledger.specs.declared.rows.Row.{Row}
+use Rattle.centre_ledger.specs.declared.{rows.DeviceRow.DeviceRow, rows.CustomerRow.CustomerRow, rows.Row.Row}
 use Rattle.centre_ledger.specs.Books.{Books, place_of, ArePlaced, AreSound, IsDeviceOf, IsCustomerAt}
 use Rattle.centre_ledger.specs.Seen.{books_in}
 use Rattle.centre_protocol.specs.Payloads.{IsPayloadOf, HoldRows}

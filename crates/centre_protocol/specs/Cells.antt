@@ -9,9 +9,7 @@ use Rattle.node_acts.specs.RowLaws.{listed_long, listed_at, listed_is, listed_sa
 use Rattle.nv_store.specs.Slot.{Held}
 use Rattle.node_storage.proofs.Called.{if_true, if_false}
 use Rattle.row_node.specs.Kept.{IsFilled, seen_by, seen_row}
-use Rattle.centre_ledger.specs.declared.rows.DeviceRow.{DeviceRow}
-use Rattle.centre_ledger.specs.declared.rows.CustomerRow.{CustomerRow}
-use Rattle.centre_ledger.specs.declared.rows.Row.{Row}
+use Rattle.centre_ledger.specs.declared.{rows.DeviceRow.DeviceRow, rows.CustomerRow.CustomerRow, rows.Row.Row}
 use Rattle.centre_ledger.specs.declared.rows.Row.TheVariants as row
 use Rattle.centre_ledger.specs.Books.{Books, put_row, no_rows}
 use Rattle.centre_ledger.specs.Soundness.{IsSoundDevice, IsSoundCustomer}

@@ -4,27 +4,21 @@ use Rattle.std.specs.Prelude.{◌==◌, if◌then◌else◌}
 use Rattle.std.proofs.lemmas.Bool.{cases_eq, eqb-true, eq-eqb, ne_eqb, cond-true}
 use Rattle.std.proofs.lemmas.Int.{ints}
 use Rattle.std.proofs.lemmas.List.{append-nil}
-use Rattle.bench_base.specs.declared.words.Node.{Node}
-use Rattle.bench_base.specs.declared.words.Node.TheVariants.{Device, Centre, Host, Verifier}
-use Rattle.bench_base.specs.declared.ledger.Commit.{Commit}
-use Rattle.bench_base.specs.declared.ledger.Commit.TheVariants.{Deposited, Ruled}
-use Rattle.bench_base.specs.declared.ledger.Entry.{Entry}
+use Rattle.bench_base.specs.declared.{words.Node.Node, words.Node.TheVariants.Device, words.Node.TheVariants.Centre, words.Node.TheVariants.Host, words.Node.TheVariants.Verifier, ledger.Commit.Commit, ledger.Commit.TheVariants.Deposited, ledger.Commit.TheVariants.Ruled, ledger.Entry.Entry}
 use Rattle.bench_base.specs.declared.ledger.Entry.TheVariants as e
 use Rattle.bench_base.specs.Ledger.{Ledger, is_on, count_of, torn_of, at_up, counted}
 use Rattle.bench_base.specs.Nodes.{is_centre, node_of, same_node}
 use Rattle.bench_base.specs.Ranges.{IsCustomer}
 use Rattle.ledger_terms.specs.Centres.{balance}
 use Rattle.statement_check.specs.Places.{moved}
-use Rattle.statement_check.specs.declared.line.Cause.{Cause}
+use Rattle.statement_check.specs.declared.{line.Cause.Cause, line.Movement.Movement}
 use Rattle.statement_check.specs.declared.line.Cause.TheVariants as causes
-use Rattle.statement_check.specs.declared.line.Movement.{Movement}
 use Rattle.centre_statement.specs.Balances.{Follows, BalancesFollow, BalancesFit}
 use Rattle.centre_statement.specs.Changes.{change_in, left_after}
 use Rattle.centre_statement.specs.Desk.{View, Opened, moved_by, changed_by, noted, seen_entry}
 use Rattle.centre_statement.specs.Movements.{OpenedAt, movement_of, movements}
 use Rattle.centre_statement.specs.Watching.{one_more, settled_at, watched}
-use Rattle.centre_statement.specs.declared.change.Change.{Change}
-use Rattle.centre_statement.specs.declared.watch.Watch.{Watch}
+use Rattle.centre_statement.specs.declared.{change.Change.Change, watch.Watch.Watch}
 use Rattle.scan_laws.proofs.Tells.{IsCalm}
 
 -- == what goes together ==

@@ -3,14 +3,9 @@ use Rattle.std.proofs.Common.{◌≡◌, ◌≢◌, ◌⊎◌, inl, inr, ℕ, Bo
 use Rattle.std.specs.List.{AllByRecursion}
 use Rattle.std.specs.Prelude.{codes}
 use Rattle.script_text.specs.Texts.{IsWholeReply}
-use Rattle.bench_base.specs.declared.events.Event.{Event}
+use Rattle.bench_base.specs.declared.{events.Event.Event, events.Reply.Reply, ledger.Entry.Entry, ledger.Entry.TheVariants.Begin, ledger.Commit.Commit, words.Node.Node}
 use Rattle.bench_base.specs.declared.events.Event.TheVariants as ev
-use Rattle.bench_base.specs.declared.events.Reply.{Reply}
 use Rattle.bench_base.specs.declared.events.Reply.TheVariants as r
-use Rattle.bench_base.specs.declared.ledger.Entry.{Entry}
-use Rattle.bench_base.specs.declared.ledger.Entry.TheVariants.{Begin}
-use Rattle.bench_base.specs.declared.ledger.Commit.{Commit}
-use Rattle.bench_base.specs.declared.words.Node.{Node}
 use Rattle.bench_base.specs.Ledger.{Ledger, counted, torn_of}
 use Rattle.bench_base.specs.Ranges.{IsCustomer}
 use Rattle.bench_base.specs.Rules.{todays_rules, editions}
@@ -23,8 +18,7 @@ use Rattle.line_extensions.specs.Trace.{StepRecord, Skipped, Did}
 use Rattle.line_extensions.specs.Desks.{World, world, Asks, Does, DidOwn, side_lines}
 use Rattle.line_extensions.specs.SideTrace.{SideStep, Plain, Own, Broken, IsBroken, steps_of}
 use Rattle.line_extensions.specs.Wants.{IsStep}
-use Rattle.line_extensions.specs.declared.extension.Next.{Next}
-use Rattle.line_extensions.specs.declared.extension.Next.TheVariants.{Step, Say, Stop}
+use Rattle.line_extensions.specs.declared.{extension.Next.Next, extension.Next.TheVariants.Step, extension.Next.TheVariants.Say, extension.Next.TheVariants.Stop}
 use Rattle.ledger_terms.specs.Editions.{Editions}
 use Rattle.ledger_laws.specs.Laws.{ForHistories}
 use Rattle.ledger_moves.specs.Histories.{History}
@@ -47,10 +41,7 @@ use Rattle.centre_statement.specs.Desk.{View, Opened, view_of, seen, fresh}
 use Rattle.centre_statement.specs.Movements.{OpenedAt, AsksBalance, IsRefused, TellsOpening, AllTold, TellsMovements, IsStated, AreStated, movements}
 use Rattle.centre_statement.specs.StatementsDesk.{statements_desk}
 use Rattle.centre_statement.specs.Texts.{said_texts, closed_texts}
-use Rattle.centre_statement.specs.declared.desk.StatementDesk.{StatementDesk}
-use Rattle.centre_statement.specs.declared.lines.OwnLine.{OwnLine}
-use Rattle.centre_statement.specs.declared.lines.OwnLine.TheVariants.{Open, Close}
-use Rattle.centre_statement.specs.declared.answer.Answer.{Answer}
+use Rattle.centre_statement.specs.declared.{desk.StatementDesk.StatementDesk, lines.OwnLine.OwnLine, lines.OwnLine.TheVariants.Open, lines.OwnLine.TheVariants.Close, answer.Answer.Answer}
 use Rattle.centre_statement.specs.declared.answer.Answer.TheVariants as answers
 use Rattle.centre_statement.proofs.Asking as asking
 use Rattle.centre_statement.proofs.Counting.{GoesWith, Lists, Listed, Kept, Sound}

@@ -4,13 +4,10 @@ use Rattle.bench_base.specs.declared.events.Event.TheVariants as ev
 use Rattle.bench_base.specs.declared.events.Reply.{Reply}
 use Rattle.bench_base.specs.declared.events.Reply.TheVariants as r
 use Rattle.node_turns.specs.declared.turn.Turn.{Turn}
-use Rattle.line_extensions.specs.declared.extension.Next.{Next}
-use Rattle.line_extensions.specs.declared.extension.Next.TheVariants.{Step, Say}
+use Rattle.line_extensions.specs.declared.{extension.Next.Next, extension.Next.TheVariants.Step, extension.Next.TheVariants.Say}
 use Rattle.statement_check.specs.declared.line.Movement.{Movement}
 use Rattle.centre_statement.specs.Desk.{View, Opened, seen}
-use Rattle.centre_statement.specs.declared.lines.OwnLine.{OwnLine}
-use Rattle.centre_statement.specs.declared.lines.OwnLine.TheVariants.{Open, Close}
-use Rattle.centre_statement.specs.declared.answer.Answer.{Answer}
+use Rattle.centre_statement.specs.declared.{lines.OwnLine.OwnLine, lines.OwnLine.TheVariants.Open, lines.OwnLine.TheVariants.Close, answer.Answer.Answer}
 use Rattle.centre_statement.specs.declared.answer.Answer.TheVariants as answers
 
 -- a statement is opened in memory that is taken with the line

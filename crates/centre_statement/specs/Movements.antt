@@ -1,9 +1,8 @@
 -- What a statement says, by the ledger: the movements that were counted between its opening and its close.
 use Rattle.std.specs.Prelude.{◌≡◌, ◌≢◌, ◌⊎◌, ◌<◌, ◌≤◌, ℕ, List, [], ◌∷◌, ◌++◌, Option, Some, None, length, codes}
 use Rattle.bench_base.specs.declared.events.Event.TheVariants as ev
-use Rattle.bench_base.specs.declared.events.Reply.{Reply}
+use Rattle.bench_base.specs.declared.{events.Reply.Reply, ledger.Commit.Commit}
 use Rattle.bench_base.specs.declared.events.Reply.TheVariants as r
-use Rattle.bench_base.specs.declared.ledger.Commit.{Commit}
 use Rattle.bench_base.specs.Ledger.{Ledger, counted}
 use Rattle.line_extensions.specs.Trace.{StepRecord, done_in}
 use Rattle.line_extensions.specs.SideTrace.{SideStep, Plain, Own, Broken}
@@ -12,13 +11,10 @@ use Rattle.ledger_terms.specs.Centres.{balance}
 use Rattle.script_replay.specs.Trace.{ledger_after}
 use Rattle.script_text.specs.Texts.{text_of}
 use Rattle.statement_check.specs.Lines.{line_text}
-use Rattle.statement_check.specs.declared.line.Movement.{Movement}
-use Rattle.statement_check.specs.declared.line.StatementLine.TheVariants.{Opening}
+use Rattle.statement_check.specs.declared.{line.Movement.Movement, line.StatementLine.TheVariants.Opening}
 use Rattle.centre_statement.specs.Changes.{change_in}
 use Rattle.centre_statement.specs.Texts.{closed_texts}
-use Rattle.centre_statement.specs.declared.change.Change.{Change}
-use Rattle.centre_statement.specs.declared.lines.OwnLine.{OwnLine}
-use Rattle.centre_statement.specs.declared.lines.OwnLine.TheVariants.{Open, Close}
+use Rattle.centre_statement.specs.declared.{change.Change.Change, lines.OwnLine.OwnLine, lines.OwnLine.TheVariants.Open, lines.OwnLine.TheVariants.Close}
 
 -- == movements ==
 

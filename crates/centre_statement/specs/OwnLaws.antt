@@ -6,8 +6,7 @@ use Rattle.script_words.proofs.Splits.{joined_words_in}
 use Rattle.script_text.specs.Grammar.{IsSkipped}
 use Rattle.line_extensions.specs.Wants.{IsAlone}
 use Rattle.centre_statement.specs.OwnLines.{IsOwnLine}
-use Rattle.centre_statement.specs.declared.lines.OwnLine.{OwnLine}
-use Rattle.centre_statement.specs.declared.lines.OwnLine.TheVariants.{Open, Close}
+use Rattle.centre_statement.specs.declared.{lines.OwnLine.OwnLine, lines.OwnLine.TheVariants.Open, lines.OwnLine.TheVariants.Close}
 
 -- a line with `statement` as its first word
 first_alone : (rest : List (List ℕ)) (line : List ℕ) → words_in line ≡ codes "statement" ∷ rest → IsAlone line

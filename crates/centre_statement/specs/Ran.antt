@@ -17,8 +17,7 @@ use Rattle.script_replay.specs.Throughout.{StandsFor}
 use Rattle.centre_statement.specs.Desk.{view_of, fresh}
 use Rattle.centre_statement.specs.Movements.{AreStated}
 use Rattle.centre_statement.specs.StatementsDesk.{statements_desk}
-use Rattle.centre_statement.specs.declared.desk.StatementDesk.{StatementDesk}
-use Rattle.centre_statement.specs.declared.lines.OwnLine.{OwnLine}
+use Rattle.centre_statement.specs.declared.{desk.StatementDesk.StatementDesk, lines.OwnLine.OwnLine}
 
 -- Desk and bench did the steps, from this desk on: what the desk does and answers for each line is in its own definitions. If the bench represented
 -- a history, and nothing was forged, each statement has the movements that were counted while it was open.

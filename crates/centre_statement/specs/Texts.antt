@@ -2,8 +2,7 @@
 use Rattle.std.specs.Prelude.{ℕ, List, [], ◌∷◌, ◌++◌, map, codes}
 use Rattle.script_text.specs.Texts.{text_of}
 use Rattle.statement_check.specs.Lines.{line_text}
-use Rattle.statement_check.specs.declared.line.Movement.{Movement}
-use Rattle.statement_check.specs.declared.line.StatementLine.TheVariants.{Opening, Moved, Closing}
+use Rattle.statement_check.specs.declared.{line.Movement.Movement, line.StatementLine.TheVariants.Opening, line.StatementLine.TheVariants.Moved, line.StatementLine.TheVariants.Closing}
 use Rattle.centre_statement.specs.declared.answer.Answer.{Answer}
 use Rattle.centre_statement.specs.declared.answer.Answer.TheVariants as answers
 

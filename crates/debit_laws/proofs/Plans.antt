@@ -1,14 +1,9 @@
 -- No plan makes more than one commit count.
 use Rattle.std.proofs.Common.{◌≡◌, ◌⊎◌, inl, inr, ℕ, ℤ, pos, Bool, true, false, ◌+◌, List, [], ◌∷◌, ◌++◌, Option, Some, None, Result, Ok, Err, refl, length, drop}
 use Rattle.std.specs.Prelude.{nat_lt}
-use Rattle.bench_base.specs.declared.words.Node.{Node}
-use Rattle.bench_base.specs.declared.words.Node.TheVariants.{Device, Centre, Host, Verifier}
-use Rattle.bench_base.specs.declared.ledger.Commit.{Commit}
-use Rattle.bench_base.specs.declared.ledger.Entry.{Entry}
+use Rattle.bench_base.specs.declared.{words.Node.Node, words.Node.TheVariants.Device, words.Node.TheVariants.Centre, words.Node.TheVariants.Host, words.Node.TheVariants.Verifier, ledger.Commit.Commit, ledger.Entry.Entry, events.Event.Event, events.Reply.Reply}
 use Rattle.bench_base.specs.declared.ledger.Entry.TheVariants as e
-use Rattle.bench_base.specs.declared.events.Event.{Event}
 use Rattle.bench_base.specs.declared.events.Event.TheVariants as ev
-use Rattle.bench_base.specs.declared.events.Reply.{Reply}
 use Rattle.bench_base.specs.declared.events.Reply.TheVariants as r
 use Rattle.bench_base.specs.Rules.{Rules}
 use Rattle.bench_base.specs.Nodes.{node_of}
@@ -16,11 +11,7 @@ use Rattle.bench_base.specs.Plans.{Plan, refuse, made, told}
 use Rattle.bench_base.specs.Events.{needs_day}
 use Rattle.bench_base.specs.Cells.{is_worn}
 use Rattle.bench_base.specs.Ledger.{Ledger, day_in, rates_in, messages, message, is_on, count_of, torn_of, counted}
-use Rattle.node_acts.specs.declared.act.Act.{Act}
-use Rattle.node_acts.specs.declared.act.Act.TheVariants.{Refuse, Tell, Commits}
-use Rattle.node_acts.specs.declared.said.Said.{Said}
-use Rattle.node_acts.specs.declared.said.GivenOut.{GivenOut}
-use Rattle.node_acts.specs.declared.said.GivenOut.TheVariants.{Released, Printed}
+use Rattle.node_acts.specs.declared.{act.Act.Act, act.Act.TheVariants.Refuse, act.Act.TheVariants.Tell, act.Act.TheVariants.Commits, said.Said.Said, said.GivenOut.GivenOut, said.GivenOut.TheVariants.Released, said.GivenOut.TheVariants.Printed}
 use Rattle.node_acts.specs.Plans.{plan_of}
 use Rattle.node_acts.specs.Said.{with_given, with_sent, tells, said_plan}
 use Rattle.psd_wire.specs.Grammar.{read}

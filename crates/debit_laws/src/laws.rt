@@ -1,7 +1,6 @@
 //! The laws of debits, as the contract of a function that takes and answers nothing.
 ghost use Rattle.std.specs.Prelude.{◌≡◌, ℕ, List};
-ghost use Rattle.bench_base.specs.declared.events.Event.{Event};
-ghost use Rattle.bench_base.specs.declared.events.Reply.{Reply};
+ghost use Rattle.bench_base.specs.declared.{events.Event.Event, events.Reply.Reply};
 ghost use Rattle.bench_base.specs.Ledger.{Ledger, IsReleased, counted};
 ghost use Rattle.bench_base.specs.Rules.{Rules, todays_rules, editions};
 ghost use Rattle.ledger_moves.specs.Histories.{History, Unforged};

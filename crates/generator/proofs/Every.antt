@@ -4,9 +4,7 @@ use Rattle.std.specs.List.{AllByRecursion}
 use Rattle.bench_base.specs.Ranges.{IsWord, IsKey}
 use Rattle.bench_base.specs.Events.{IsWholeEvent}
 use Rattle.bench_base.specs.declared.events.Event.{Event}
-use Rattle.generator.specs.declared.turns.Counts.{Counts}
-use Rattle.generator.specs.declared.turns.Turn.{Turn}
-use Rattle.generator.specs.declared.turns.Turn.TheVariants.{Scan, Cut, Reset}
+use Rattle.generator.specs.declared.{turns.Counts.Counts, turns.Turn.Turn, turns.Turn.TheVariants.Scan, turns.Turn.TheVariants.Cut, turns.Turn.TheVariants.Reset}
 use Rattle.generator.specs.Draws.{draw, number_after}
 use Rattle.generator.specs.Given.{GivesOnlyDebits, NeedsNoStream}
 use Rattle.generator.specs.Turns.{gives, turn_from, draws_of, events_of, counted, kind_from, postage_from, HasRoom}

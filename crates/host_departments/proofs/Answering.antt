@@ -16,9 +16,7 @@ use Rattle.node_turns.specs.declared.turn.Turn.{Turn}
 use Rattle.line_extensions.specs.Trace.{StepRecord, Skipped, Did}
 use Rattle.line_extensions.specs.Desks.{World, world, Asks, Does}
 use Rattle.line_extensions.specs.SideTrace.{SideStep, Plain, Own, Broken}
-use Rattle.line_extensions.specs.declared.extension.Extension.{Ghosts}
-use Rattle.line_extensions.specs.declared.extension.Next.{Next}
-use Rattle.line_extensions.specs.declared.extension.Next.TheVariants.{Step, Say, Stop}
+use Rattle.line_extensions.specs.declared.{extension.Extension.Ghosts, extension.Next.Next, extension.Next.TheVariants.Step, extension.Next.TheVariants.Say, extension.Next.TheVariants.Stop}
 use Rattle.line_extensions.specs.Stops.{HasBroken, IsUntouched}
 use Rattle.line_extensions.proofs.Lines.{BrokenLast}
 use Rattle.line_extensions.proofs.Stores.{Goes, Breaks, Ends, goes_rests, goes_same, goes_on, breaks_later, breaks_before, came_by}
@@ -33,13 +31,8 @@ use Rattle.host_departments.specs.Payload.{decoded, spelled}
 use Rattle.host_departments.specs.Rows.{Rows, quota, spent, first_cell}
 use Rattle.host_departments.specs.Texts.{said_texts, numbered, quota_text, assigned_text, again_text, spent_text}
 use Rattle.host_departments.specs.View.{said_of, has_failed, rows_of, store_of, view_of, Rests}
-use Rattle.host_departments.specs.declared.desk.Departments.{Departments}
-use Rattle.host_departments.specs.declared.row.TheConstants.{CELLS}
-use Rattle.host_departments.specs.declared.row.DepartmentLine.{DepartmentLine}
-use Rattle.host_departments.specs.declared.row.DepartmentLine.TheVariants.{Quota, Assign, Spent, Print}
-use Rattle.host_departments.specs.declared.row.DepartmentRow.{DepartmentRow}
+use Rattle.host_departments.specs.declared.{desk.Departments.Departments, row.TheConstants.CELLS, row.DepartmentLine.DepartmentLine, row.DepartmentLine.TheVariants.Quota, row.DepartmentLine.TheVariants.Assign, row.DepartmentLine.TheVariants.Spent, row.DepartmentLine.TheVariants.Print, row.DepartmentRow.DepartmentRow, answer.Answer.Answer}
 use Rattle.host_departments.specs.declared.row.DepartmentRow.TheVariants as row
-use Rattle.host_departments.specs.declared.answer.Answer.{Answer}
 use Rattle.host_departments.specs.declared.answer.Answer.TheVariants as answers
 use Rattle.line_extensions.proofs.Wanting.{no_step, no_say, step_event, ends_at}
 

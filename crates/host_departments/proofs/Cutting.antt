@@ -14,10 +14,7 @@ use Rattle.host_departments.specs.Answers.{Asked, CellCommit, IsFree, IsCutShort
 use Rattle.host_departments.specs.DepartmentLines.{IsLine}
 use Rattle.host_departments.specs.Rows.{Rows, quota, or_zero, spent, first_cell, department_of, Keeps, Has, IsSound}
 use Rattle.host_departments.specs.View.{rows_of}
-use Rattle.host_departments.specs.declared.desk.Departments.{Departments}
-use Rattle.host_departments.specs.declared.row.DepartmentLine.{DepartmentLine}
-use Rattle.host_departments.specs.declared.row.DepartmentLine.TheVariants.{Quota, Assign, Spent, Print}
-use Rattle.host_departments.specs.declared.row.DepartmentRow.{DepartmentRow}
+use Rattle.host_departments.specs.declared.{desk.Departments.Departments, row.DepartmentLine.DepartmentLine, row.DepartmentLine.TheVariants.Quota, row.DepartmentLine.TheVariants.Assign, row.DepartmentLine.TheVariants.Spent, row.DepartmentLine.TheVariants.Print, row.DepartmentRow.DepartmentRow}
 use Rattle.host_departments.proofs.Keeping.{rows_long, job_place}
 use Rattle.host_departments.proofs.Places.{owner}
 use Rattle.host_departments.proofs.Puts.{quota_sound, job_sound}

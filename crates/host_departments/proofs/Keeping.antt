@@ -11,8 +11,7 @@ use Rattle.row_store.proofs.Kept.{row_read}
 use Rattle.host_departments.specs.Kept.{AllFilled, rows_in}
 use Rattle.host_departments.specs.Payload.{decoded, IsFit}
 use Rattle.host_departments.specs.Rows.{row_in, job_in, Keeps}
-use Rattle.host_departments.specs.declared.row.DepartmentRow.{DepartmentRow}
-use Rattle.host_departments.specs.declared.row.DepartmentRow.TheVariants.{Quota, Job}
+use Rattle.host_departments.specs.declared.{row.DepartmentRow.DepartmentRow, row.DepartmentRow.TheVariants.Quota, row.DepartmentRow.TheVariants.Job}
 use Rattle.host_departments.proofs.Payloads.{decoded_fits}
 
 module _ (room : Room 12) where

@@ -10,8 +10,7 @@ use Rattle.host_departments.specs.DepartmentLines.{IsBehind, IsDepartmentLine}
 use Rattle.line_extensions.specs.Wants.{IsEvent}
 use Rattle.host_departments.specs.Passes.{Passes, IsPrintOf}
 use Rattle.host_departments.specs.Rows.{Rows, IsDepartment}
-use Rattle.host_departments.specs.declared.row.DepartmentLine.{DepartmentLine}
-use Rattle.host_departments.specs.declared.row.DepartmentLine.TheVariants.{Quota, Assign, Spent, Print}
+use Rattle.host_departments.specs.declared.{row.DepartmentLine.DepartmentLine, row.DepartmentLine.TheVariants.Quota, row.DepartmentLine.TheVariants.Assign, row.DepartmentLine.TheVariants.Spent, row.DepartmentLine.TheVariants.Print}
 
 -- a department's number is short
 pub few : (d : ℕ) → IsDepartment d → IsWord d

@@ -11,8 +11,7 @@ use Rattle.ledger_moves.specs.Tariffs.{Tariff}
 use Rattle.bench.specs.Benches.{Nodes, BenchOf, Stands}
 use Rattle.line_runs.specs.Trace.{Reads}
 use Rattle.line_runs.specs.declared.status.Status.TheVariants as status
-use Rattle.line_runs.specs.declared.status.SideStatus.{SideStatus}
-use Rattle.line_runs.specs.declared.status.SideStatus.TheVariants.{Run}
+use Rattle.line_runs.specs.declared.{status.SideStatus.SideStatus, status.SideStatus.TheVariants.Run}
 use Rattle.line_extensions.specs.Trace.{StepRecord}
 use Rattle.line_extensions.specs.Desks.{World, world, side_lines}
 use Rattle.line_extensions.specs.SideTrace.{SideStep, steps_of}
@@ -28,9 +27,7 @@ use Rattle.host_departments.specs.Payload.{decoded}
 use Rattle.host_departments.specs.Ran.{DidDepartments}
 use Rattle.host_departments.specs.Rows.{Rows}
 use Rattle.host_departments.specs.View.{rows_of, view_of, has_failed}
-use Rattle.host_departments.specs.declared.desk.Departments.{Departments}
-use Rattle.host_departments.specs.declared.row.DepartmentLine.{DepartmentLine}
-use Rattle.host_departments.specs.declared.row.TheConstants.{CELLS}
+use Rattle.host_departments.specs.declared.{desk.Departments.Departments, row.DepartmentLine.DepartmentLine, row.TheConstants.CELLS}
 use Rattle.host_departments.proofs.Answering.{all_answered}
 use Rattle.host_departments.proofs.Backing.{backed_after}
 use Rattle.host_departments.proofs.Cutting.{desk_sound}

@@ -15,9 +15,7 @@ use Rattle.host_departments.specs.Heard.{IsTaken}
 use Rattle.host_departments.specs.Passes.{Passes}
 use Rattle.host_departments.specs.Rows.{Rows, quota, spent, first_cell, Has, AnotherHas, IsAssigned, HasJobs}
 use Rattle.host_departments.specs.Texts.{numbered, quota_text, assigned_text, again_text, spent_text}
-use Rattle.host_departments.specs.declared.row.DepartmentLine.{DepartmentLine}
-use Rattle.host_departments.specs.declared.row.DepartmentLine.TheVariants.{Quota, Assign, Spent, Print}
-use Rattle.host_departments.specs.declared.row.DepartmentRow.{DepartmentRow}
+use Rattle.host_departments.specs.declared.{row.DepartmentLine.DepartmentLine, row.DepartmentLine.TheVariants.Quota, row.DepartmentLine.TheVariants.Assign, row.DepartmentLine.TheVariants.Spent, row.DepartmentLine.TheVariants.Print, row.DepartmentRow.DepartmentRow}
 use Rattle.host_departments.specs.declared.row.DepartmentRow.TheVariants as row
 
 -- an event that was asked for, and what it came to

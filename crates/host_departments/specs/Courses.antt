@@ -1,24 +1,18 @@
 -- What is done for an own line: before its message, and after it.
 use Rattle.std.specs.Prelude.{◌≡◌, ◌⊎◌, ◌<◌, ℕ, ◌+◌, ◌-◌, List, Bool, true, false, Option, Some, None, Result, Ok, Err, nat_lt}
 use Rattle.bench_base.specs.declared.events.Event.TheVariants as ev
-use Rattle.bench_base.specs.declared.events.Reply.{Reply}
-use Rattle.bench_base.specs.declared.refusals.StoreFail.{StoreFail}
+use Rattle.bench_base.specs.declared.{events.Reply.Reply, refusals.StoreFail.StoreFail}
 use Rattle.bench_base.specs.declared.refusals.StoreFail.TheVariants as fail
 use Rattle.nv_model.specs.declared.nv.Nv.{Ghosts}
 use Rattle.nv_store.specs.Fails.{ends_failed}
-use Rattle.line_extensions.specs.declared.extension.Next.{Next}
-use Rattle.line_extensions.specs.declared.extension.Next.TheVariants.{Step, Say, Stop}
+use Rattle.line_extensions.specs.declared.{extension.Next.Next, extension.Next.TheVariants.Step, extension.Next.TheVariants.Say, extension.Next.TheVariants.Stop}
 use Rattle.row_store.specs.Commits.{CommitsRow}
 use Rattle.host_departments.specs.Heard.{IsTaken}
 use Rattle.host_departments.specs.Payload.{decoded, spelled}
 use Rattle.host_departments.specs.Rows.{quota, spent, first_cell, Has, AnotherHas, IsAssigned, HasJobs}
 use Rattle.host_departments.specs.View.{said_of, has_failed, rows_of, store_of, Rests}
-use Rattle.host_departments.specs.declared.row.DepartmentLine.{DepartmentLine}
-use Rattle.host_departments.specs.declared.row.DepartmentLine.TheVariants.{Quota, Assign, Spent, Print}
-use Rattle.host_departments.specs.declared.row.DepartmentRow.{DepartmentRow}
+use Rattle.host_departments.specs.declared.{row.DepartmentLine.DepartmentLine, row.DepartmentLine.TheVariants.Quota, row.DepartmentLine.TheVariants.Assign, row.DepartmentLine.TheVariants.Spent, row.DepartmentLine.TheVariants.Print, row.DepartmentRow.DepartmentRow, desk.Departments.Departments, answer.Answer.Answer}
 use Rattle.host_departments.specs.declared.row.DepartmentRow.TheVariants as row
-use Rattle.host_departments.specs.declared.desk.Departments.{Departments}
-use Rattle.host_departments.specs.declared.answer.Answer.{Answer}
 use Rattle.host_departments.specs.declared.answer.Answer.TheVariants as answers
 
 -- the one or the other

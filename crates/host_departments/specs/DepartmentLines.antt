@@ -5,8 +5,7 @@ use Rattle.bench_base.specs.declared.events.Event.TheVariants as ev
 use Rattle.script_words.specs.Words.{words_in}
 use Rattle.line_extensions.specs.Events.{IsLineOf}
 use Rattle.host_departments.specs.Rows.{IsDepartment}
-use Rattle.host_departments.specs.declared.row.DepartmentLine.{DepartmentLine}
-use Rattle.host_departments.specs.declared.row.DepartmentLine.TheVariants.{Quota, Assign, Spent, Print}
+use Rattle.host_departments.specs.declared.{row.DepartmentLine.DepartmentLine, row.DepartmentLine.TheVariants.Quota, row.DepartmentLine.TheVariants.Assign, row.DepartmentLine.TheVariants.Spent, row.DepartmentLine.TheVariants.Print}
 
 -- the line is one that may be written
 abbrev pub IsLine : DepartmentLine → Type 0

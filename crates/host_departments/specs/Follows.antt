@@ -11,8 +11,7 @@ use Rattle.host_departments.specs.Answers.{CellCommit, AreAnswered}
 use Rattle.host_departments.specs.Holds.{ordered, DepartmentsHold}
 use Rattle.host_departments.specs.Rows.{Rows, quota}
 use Rattle.host_departments.specs.Texts.{spent_text}
-use Rattle.host_departments.specs.declared.row.DepartmentLine.{DepartmentLine}
-use Rattle.host_departments.specs.declared.row.DepartmentLine.TheVariants.{Quota, Assign, Spent, Print}
+use Rattle.host_departments.specs.declared.{row.DepartmentLine.DepartmentLine, row.DepartmentLine.TheVariants.Quota, row.DepartmentLine.TheVariants.Assign, row.DepartmentLine.TheVariants.Spent, row.DepartmentLine.TheVariants.Print}
 
 -- `dept spent` of a department with this quota is answered by the postage that was ordered for its jobs
 abbrev pub TellsOrders : DepartmentLine → Rows → Ledger → List (List ℕ) → Type 0

@@ -19,8 +19,7 @@ use Rattle.host_departments.specs.Holds.{DepartmentsHold}
 use Rattle.host_departments.specs.Ran.{DidDepartments}
 use Rattle.host_departments.specs.Rows.{row_in}
 use Rattle.host_departments.specs.View.{rows_of, has_failed}
-use Rattle.host_departments.specs.declared.desk.Departments.{Departments}
-use Rattle.host_departments.specs.declared.row.DepartmentLine.{DepartmentLine}
+use Rattle.host_departments.specs.declared.{desk.Departments.Departments, row.DepartmentLine.DepartmentLine}
 
 -- no quota and no job is kept
 abbrev pub KeepsNone : {N : Type 0} {own : nv.Ghosts N} → Departments N own → Type 0

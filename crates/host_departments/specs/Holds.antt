@@ -1,12 +1,10 @@
 -- What is promised of departments, by a ledger.
 use Rattle.std.specs.Prelude.{◌≡◌, ℕ, ◌+◌, List, Option, Some, None, Contains}
-use Rattle.bench_base.specs.declared.ledger.Commit.{Commit}
-use Rattle.bench_base.specs.declared.ledger.Commit.TheVariants.{Ordered}
+use Rattle.bench_base.specs.declared.{ledger.Commit.Commit, ledger.Commit.TheVariants.Ordered}
 use Rattle.bench_base.specs.Ledger.{Ledger, counted}
 use Rattle.send_laws.specs.Orders.{ordered_postage}
 use Rattle.host_departments.specs.Rows.{Rows, row_in, first_cell, IsDepartment, sum_to, or_zero, spent}
-use Rattle.host_departments.specs.declared.row.DepartmentRow.{DepartmentRow}
-use Rattle.host_departments.specs.declared.row.DepartmentRow.TheVariants.{Quota, Job}
+use Rattle.host_departments.specs.declared.{row.DepartmentRow.DepartmentRow, row.DepartmentRow.TheVariants.Quota, row.DepartmentRow.TheVariants.Job}
 
 -- THE PREMISE ON JOBS OF EARLIER RUNS, by what they left: each job that is kept has an Ordered with the same postage in the commits that count
 abbrev pub AreBacked : Rows → Ledger → Type 0

@@ -8,8 +8,7 @@ use Rattle.script_text.specs.Texts.{text_of}
 use Rattle.host_departments.specs.Answers.{Asked, Answered, IsAnswered}
 use Rattle.host_departments.specs.Heard.{IsTaken}
 use Rattle.host_departments.specs.Rows.{Rows, first_cell, AnotherHas}
-use Rattle.host_departments.specs.declared.row.DepartmentLine.{DepartmentLine}
-use Rattle.host_departments.specs.declared.row.DepartmentLine.TheVariants.{Quota, Assign, Spent, Print}
+use Rattle.host_departments.specs.declared.{row.DepartmentLine.DepartmentLine, row.DepartmentLine.TheVariants.Quota, row.DepartmentLine.TheVariants.Assign, row.DepartmentLine.TheVariants.Spent, row.DepartmentLine.TheVariants.Print}
 
 -- the line is one of department d
 abbrev pub IsLineOf : ℕ → DepartmentLine → Type 0

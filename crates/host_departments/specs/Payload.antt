@@ -3,9 +3,7 @@ use Rattle.std.specs.Prelude.{◌<◌, ◌≤◌, ℕ, ◌+◌, List, [], ◌∷
 use Rattle.bench_base.specs.Ranges.{IsPostage}
 use Rattle.bench_base.specs.Table.{Size, Four, row, values}
 use Rattle.host_departments.specs.Rows.{department_of}
-use Rattle.host_departments.specs.declared.row.DepartmentRow.{DepartmentRow}
-use Rattle.host_departments.specs.declared.row.DepartmentRow.TheVariants.{Quota, Job}
-use Rattle.host_departments.specs.declared.row.TheConstants.{MOST_POSTAGE}
+use Rattle.host_departments.specs.declared.{row.DepartmentRow.DepartmentRow, row.DepartmentRow.TheVariants.Quota, row.DepartmentRow.TheVariants.Job, row.TheConstants.MOST_POSTAGE}
 
 abbrev pub cell_table : List Size
 cell_table = Four ∷ Four ∷ Four ∷ []

@@ -25,9 +25,7 @@ use Rattle.host_departments.specs.Holds.{AreBacked, DepartmentsHold}
 use Rattle.host_departments.specs.Payload.{decoded}
 use Rattle.host_departments.specs.Rows.{Rows, IsDepartment, Has, IsAssigned, quota, or_zero, spent, IsSound}
 use Rattle.host_departments.specs.View.{rows_of, view_of}
-use Rattle.host_departments.specs.declared.desk.Departments.{Departments}
-use Rattle.host_departments.specs.declared.row.DepartmentLine.{DepartmentLine}
-use Rattle.host_departments.specs.declared.row.TheConstants.{CELLS}
+use Rattle.host_departments.specs.declared.{desk.Departments.Departments, row.DepartmentLine.DepartmentLine, row.TheConstants.CELLS}
 
 -- each department has spent at most its quota: nothing, where it has none
 abbrev pub IsWithinQuotas : Rows → Type 0

@@ -1,8 +1,7 @@
 -- The quotas and jobs that are kept, by their cells.
 use Rattle.std.specs.Prelude.{◌≡◌, ◌≢◌, ◌<◌, ◌≤◌, ℕ, zero, suc, ◌+◌, ◌-◌, ◌*◌, ◌/◌, Option, Some, None, IsSome}
 use Rattle.node_acts.specs.RowList.{RowList, row_at, row_of}
-use Rattle.host_departments.specs.declared.row.DepartmentRow.{DepartmentRow}
-use Rattle.host_departments.specs.declared.row.DepartmentRow.TheVariants.{Quota, Job}
+use Rattle.host_departments.specs.declared.{row.DepartmentRow.DepartmentRow, row.DepartmentRow.TheVariants.Quota, row.DepartmentRow.TheVariants.Job}
 
 abbrev pub Rows : Type 0
 Rows = RowList DepartmentRow

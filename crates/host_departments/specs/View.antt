@@ -7,8 +7,7 @@ use Rattle.row_store.specs.Commits.{RowView, rows_view}
 use Rattle.line_extensions.specs.Stops.{DeskView}
 use Rattle.host_departments.specs.Kept.{rows_in}
 use Rattle.host_departments.specs.Rows.{Rows}
-use Rattle.host_departments.specs.declared.desk.Departments.{Departments}
-use Rattle.host_departments.specs.declared.answer.Answer.{Answer}
+use Rattle.host_departments.specs.declared.{desk.Departments.Departments, answer.Answer.Answer}
 
 module _ {N : Type 0} {g : Ghosts N} where
   -- their storage

@@ -3,15 +3,13 @@ use Rattle.std.proofs.Common.{◌≡◌, ◌≢◌, ℕ, ◌+◌, ◌-◌, ◌%�
 use Rattle.std.specs.Prelude.{◌&&◌, nat_le, nat_lt, if◌then◌else◌}
 use Rattle.std.proofs.lemmas.Bool.{cases_Bool, cases_eq, and_parts, le-leb, lt-ltb, leb-true, ltb-true}
 use Rattle.std.proofs.lemmas.Option.{same_Some, none-some}
-use Rattle.bench_base.specs.declared.words.JobState.{JobState}
+use Rattle.bench_base.specs.declared.{words.JobState.JobState, ledger.Commit.Commit}
 use Rattle.bench_base.specs.declared.words.JobState.TheVariants as state
-use Rattle.bench_base.specs.declared.ledger.Commit.{Commit}
 use Rattle.bench_base.specs.Jobs.{Job, cell_of, last_job, job_of, state_of, open_job, top, in_cells}
 use Rattle.bench_base.specs.Ranges.{IsDevice}
 use Rattle.bench_base.proofs.Facts.{some_by}
 use Rattle.node_acts.specs.RowLaws.{listed_at, listed_same}
-use Rattle.host_jobs.specs.declared.rows.JobRow.{JobRow}
-use Rattle.host_jobs.specs.declared.sizes.TheConstants.{HOST_CELLS}
+use Rattle.host_jobs.specs.declared.{rows.JobRow.JobRow, sizes.TheConstants.HOST_CELLS}
 use Rattle.host_jobs.specs.Plans.{shown_job}
 use Rattle.host_jobs.specs.Rows.{Jobs, job_in, state_in, number_in, top_at, is_ordered, waiting, row_in, job_row, last_in, top_in, open_in, oldest_in, tops_in}
 use Rattle.host_jobs.specs.Records.{tops_after, record_by, record_of, cell_row}

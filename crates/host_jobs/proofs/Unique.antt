@@ -4,8 +4,7 @@ use Rattle.std.proofs.Props.{props}
 use Rattle.std.specs.Prelude.{IfSome}
 use Rattle.bench_base.specs.declared.words.JobState.{JobState}
 use Rattle.bench_base.specs.declared.words.JobState.TheVariants as state
-use Rattle.host_jobs.specs.declared.rows.JobRow.{JobRow}
-use Rattle.host_jobs.specs.declared.kept.Kept.{Kept}
+use Rattle.host_jobs.specs.declared.{rows.JobRow.JobRow, kept.Kept.Kept}
 use Rattle.host_jobs.specs.Rows.{Jobs, row_in}
 use Rattle.host_jobs.specs.Soundness.{IsMarked, Holds, IsSoundJob, IsJobAt, IsFresh, ArePlaced, AreJoined, AreSound, IsDerived}
 

@@ -4,9 +4,7 @@ use Rattle.bench_base.specs.Nodes.{node_of}
 use Rattle.bench_base.specs.Ranges.{IsDevice, IsPostage}
 use Rattle.bench_base.specs.Cells.{OfJob, place_of}
 use Rattle.bench_base.specs.Jobs.{cell_of}
-use Rattle.bench_base.specs.declared.words.Node.TheVariants.{Host}
-use Rattle.bench_base.specs.declared.refusals.RateRefusal.{RateRefusal}
-use Rattle.bench_base.specs.declared.ledger.Commit.{Commit}
+use Rattle.bench_base.specs.declared.{words.Node.TheVariants.Host, refusals.RateRefusal.RateRefusal, ledger.Commit.Commit}
 use Rattle.node_acts.specs.Acts.{OfCommit}
 use Rattle.node_acts.specs.declared.act.Act.{Act}
 use Rattle.host_jobs.specs.declared.rows.JobRow.{JobRow}

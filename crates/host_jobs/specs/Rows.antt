@@ -5,9 +5,7 @@ use Rattle.bench_base.specs.declared.words.JobState.TheVariants as state
 use Rattle.bench_base.specs.Rows.{first_of}
 use Rattle.bench_base.specs.Jobs.{Job, cell_of, unless_job}
 use Rattle.node_acts.specs.RowList.{listed}
-use Rattle.host_jobs.specs.declared.rows.JobRow.{JobRow}
-use Rattle.host_jobs.specs.declared.kept.Kept.{Kept}
-use Rattle.host_jobs.specs.declared.sizes.TheConstants.{HOST_CELLS}
+use Rattle.host_jobs.specs.declared.{rows.JobRow.JobRow, kept.Kept.Kept, sizes.TheConstants.HOST_CELLS}
 
 -- == one row ==
 

@@ -1,7 +1,6 @@
 -- What the commits show of the host's cells. The lists of commits have the newest first.
 use Rattle.std.specs.Prelude.{◌≡◌, ℕ, false, List, ◌∷◌}
-use Rattle.bench_base.specs.declared.words.Node.TheVariants.{Host}
-use Rattle.bench_base.specs.declared.ledger.Commit.{Commit}
+use Rattle.bench_base.specs.declared.{words.Node.TheVariants.Host, ledger.Commit.Commit}
 use Rattle.bench_base.specs.Nodes.{node_of, same_node}
 use Rattle.bench_base.specs.Cells.{OfJob, place_of}
 use Rattle.bench_base.specs.Cells as cells

@@ -2,8 +2,7 @@
 use Rattle.std.proofs.Common.{◌≡◌, sym, ◌∙◌, ap, subst}
 use Rattle.bench_base.specs.declared.ledger.Commit.{Commit}
 use Rattle.node_acts.specs.declared.act.Act.TheVariants.{Commits}
-use Rattle.host_jobs.specs.declared.kept.Kept.{Kept}
-use Rattle.host_jobs.specs.declared.rows.JobRow.{JobRow}
+use Rattle.host_jobs.specs.declared.{kept.Kept.Kept, rows.JobRow.JobRow}
 use Rattle.host_jobs.specs.Acts.{HostAct}
 use Rattle.host_jobs.specs.ActLaws.{LeavesSound, SoundActs}
 use Rattle.host_jobs.specs.Rows.{Jobs}

@@ -4,8 +4,7 @@ use Rattle.std.proofs.lemmas.List.{ext_get_or, get_or-map, get_or-set_same, get_
 use Rattle.node_acts.specs.RowList.{row_at, row_of, commits_at, put}
 use Rattle.nv_store.specs.Slot.{Held}
 use Rattle.row_node.specs.Kept.{IsFilled, seen_by, seen_long, seen_row}
-use Rattle.host_jobs.specs.declared.rows.JobRow.{JobRow}
-use Rattle.host_jobs.specs.declared.sizes.TheConstants.{HOST_CELLS}
+use Rattle.host_jobs.specs.declared.{rows.JobRow.JobRow, sizes.TheConstants.HOST_CELLS}
 use Rattle.host_jobs.proofs.Cells.{cell_lt}
 use Rattle.host_jobs.proofs.Keeping.{none_at}
 use Rattle.host_jobs.specs.Rows.{Jobs, no_jobs, row_in, put_row}

@@ -10,8 +10,7 @@ use Rattle.row_node.specs.Tables.{Table, seen_of}
 use Rattle.row_node.specs.Boots.{Found}
 use Rattle.row_node.specs.Counts.{few_found, few_after}
 use Rattle.row_node.specs.Laws.{Laws}
-use Rattle.host_jobs.specs.declared.rows.JobRow.{JobRow}
-use Rattle.host_jobs.specs.declared.sizes.TheConstants.{JOB_BYTES, HOST_CELLS}
+use Rattle.host_jobs.specs.declared.{rows.JobRow.JobRow, sizes.TheConstants.JOB_BYTES, sizes.TheConstants.HOST_CELLS}
 use Rattle.host_jobs.specs.Payload.{job_bytes}
 use Rattle.host_jobs.specs.Rows.{row_in}
 use Rattle.host_jobs.specs.Soundness.{AreSound, IsDerived}

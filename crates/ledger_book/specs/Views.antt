@@ -1,8 +1,6 @@
 -- What the commits record of one device, of the centre's record of a device, and of a customer, each as one value.
 use Rattle.std.specs.Prelude.{ℕ, ℤ, pos, ◌+◌, ◌+ℤ◌, Bool, true, ◌&&◌, ◌||◌, List, Option, Some, max, if◌then◌else◌}
-use Rattle.bench_base.specs.declared.words.Kind.TheVariants.{Enrol, Audit, Withdraw}
-use Rattle.bench_base.specs.declared.words.Verdict.{Verdict}
-use Rattle.bench_base.specs.declared.ledger.Commit.{Commit}
+use Rattle.bench_base.specs.declared.{words.Kind.TheVariants.Enrol, words.Kind.TheVariants.Audit, words.Kind.TheVariants.Withdraw, words.Verdict.Verdict, ledger.Commit.Commit}
 use Rattle.bench_base.specs.Kinds.{same_kind, is_granted, is_dated}
 use Rattle.bench_base.specs.Rows.{first_of}
 use Rattle.psd_wire.specs.declared.message.Request.{Request}

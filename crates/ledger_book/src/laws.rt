@@ -1,10 +1,7 @@
 //! Laws of the definitions. Each function does nothing: its contract is the law.
 ghost use Rattle.std.specs.Prelude.{◌≡◌, ◌↔◌, ◌+◌, ◌-◌, ◌≤◌, ◌+ℤ◌, ◌-ℤ◌, ◌==◌, ℕ, ℤ, pos, false, List, ◌∷◌, sum};
-ghost use Rattle.bench_base.specs.declared.words.Verdict.{Verdict};
-ghost use Rattle.bench_base.specs.declared.words.Node.TheVariants.{Device, Centre, Host, Verifier};
-ghost use Rattle.bench_base.specs.declared.ledger.Commit.{Commit};
+ghost use Rattle.bench_base.specs.declared.{words.Verdict.Verdict, words.Node.TheVariants.Device, words.Node.TheVariants.Centre, words.Node.TheVariants.Host, words.Node.TheVariants.Verifier, ledger.Commit.Commit, ledger.Entry.Entry};
 ghost use Rattle.bench_base.specs.declared.ledger.Commit.TheVariants as c;
-ghost use Rattle.bench_base.specs.declared.ledger.Entry.{Entry};
 ghost use Rattle.bench_base.specs.Nodes.{same_node, node_of};
 ghost use Rattle.bench_base.specs.Ledger.{Ledger, counted};
 ghost use Rattle.bench_base.specs.Jobs.{last_job, job_of, held_of, state_of, begun, open_job, top};

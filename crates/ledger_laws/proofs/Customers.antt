@@ -6,10 +6,7 @@ use Rattle.std.proofs.Common.{◌≡◌, ℕ, ◌+◌, ◌-◌, ◌<◌, ◌≤�
 use Rattle.std.specs.Prelude.{◌==◌, ◌&&◌}
 use Rattle.std.proofs.lemmas.Bool.{eqb-true, cases_Bool, eq-eqb, and_parts}
 use Rattle.std.proofs.lemmas.Option.{same_Some, none-some}
-use Rattle.bench_base.specs.declared.words.Kind.TheVariants.{Enrol, Reset}
-use Rattle.bench_base.specs.declared.words.Verdict.{Verdict}
-use Rattle.bench_base.specs.declared.ledger.Commit.{Commit}
-use Rattle.bench_base.specs.declared.ledger.Commit.TheVariants.{Deposited, Ruled}
+use Rattle.bench_base.specs.declared.{words.Kind.TheVariants.Enrol, words.Kind.TheVariants.Reset, words.Verdict.Verdict, ledger.Commit.Commit, ledger.Commit.TheVariants.Deposited, ledger.Commit.TheVariants.Ruled}
 use Rattle.bench_base.specs.Rules.{Rules}
 use Rattle.bench_base.specs.Rows.{first_of}
 use Rattle.bench_base.specs.Kinds.{same_kind, is_granted}

@@ -4,9 +4,7 @@ use Rattle.std.proofs.Common.{◌+◌, IsSome, ◌≡◌, ℕ, ℤ, ◌≤◌, B
 use Rattle.std.specs.Prelude.{◌==◌, ◌&&◌, if◌then◌else◌}
 use Rattle.std.proofs.lemmas.Bool.{eqb-true, cases_Bool, eq-eqb, and_parts}
 use Rattle.std.proofs.lemmas.Option.{same_Some}
-use Rattle.bench_base.specs.declared.words.Kind.TheVariants.{Enrol}
-use Rattle.bench_base.specs.declared.ledger.Commit.{Commit}
-use Rattle.bench_base.specs.declared.ledger.Commit.TheVariants.{Made, Applied, Debited, Registered}
+use Rattle.bench_base.specs.declared.{words.Kind.TheVariants.Enrol, ledger.Commit.Commit, ledger.Commit.TheVariants.Made, ledger.Commit.TheVariants.Applied, ledger.Commit.TheVariants.Debited, ledger.Commit.TheVariants.Registered}
 use Rattle.bench_base.specs.Rules.{Rules}
 use Rattle.bench_base.specs.Ranges.{IsDevice, IsWord}
 use Rattle.bench_base.specs.Kinds.{is_granted, same_kind}

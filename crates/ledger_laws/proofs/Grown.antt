@@ -6,22 +6,16 @@ use Rattle.std.proofs.Common.{◌≡◌, ℕ, ℤ, ◌+◌, ◌<◌, ◌^◌, Bo
 use Rattle.std.specs.Prelude.{◌==◌, IsSome}
 use Rattle.std.proofs.lemmas.Bool.{cases_Bool}
 use Rattle.std.proofs.lemmas.Option.{same_Some, none-some}
-use Rattle.bench_base.specs.declared.words.Node.{Node}
-use Rattle.bench_base.specs.declared.words.Verdict.{Verdict}
-use Rattle.bench_base.specs.declared.ledger.Commit.{Commit}
-use Rattle.bench_base.specs.declared.ledger.Commit.TheVariants.{Held, Accepted}
-use Rattle.bench_base.specs.declared.ledger.Entry.{Entry}
+use Rattle.bench_base.specs.declared.{words.Node.Node, words.Verdict.Verdict, ledger.Commit.Commit, ledger.Commit.TheVariants.Held, ledger.Commit.TheVariants.Accepted, ledger.Entry.Entry}
 use Rattle.bench_base.specs.declared.ledger.Entry.TheVariants as e
 use Rattle.bench_base.specs.Rules.{Rules}
 use Rattle.bench_base.specs.Nodes.{same_node, node_of}
 use Rattle.bench_base.specs.Ranges.{IsDay, IsDevice, IsWord, InRange}
-use Rattle.psd_wire.specs.declared.message.DebitMsg.{DebitMsg}
+use Rattle.psd_wire.specs.declared.{message.DebitMsg.DebitMsg, message.ReplyMsg.ReplyMsg, message.Message.Message}
 use Rattle.bench_base.specs.Kinds.{is_granted}
 use Rattle.bench_base.specs.Ledger.{Ledger, day_in, IsSent, IsReleased, IsReleasedAs, IsPrinted, is_on, count_of, torn_of, at_up, counted}
 use Rattle.bench_base.specs.Jobs.{held_of, begun}
 use Rattle.bench_base.proofs.Facts.{ok_same, same_node_true}
-use Rattle.psd_wire.specs.declared.message.ReplyMsg.{ReplyMsg}
-use Rattle.psd_wire.specs.declared.message.Message.{Message}
 use Rattle.psd_wire.specs.declared.message.Message.TheVariants as m
 use Rattle.psd_wire.specs.Grammar.{read}
 use Rattle.ledger_terms.specs.Requests.{request_in, note_of}

@@ -1,8 +1,6 @@
 //! The laws of histories, each as a contract of a function that takes and answers nothing.
 ghost use Rattle.std.specs.Prelude.{◌≡◌, ℕ, List, [], ◌∷◌, Some, All, IsSome, true};
-ghost use Rattle.bench_base.specs.declared.words.Node.{Node};
-ghost use Rattle.bench_base.specs.declared.ledger.Commit.{Commit};
-ghost use Rattle.bench_base.specs.declared.events.Event.{Event};
+ghost use Rattle.bench_base.specs.declared.{words.Node.Node, ledger.Commit.Commit, events.Event.Event};
 ghost use Rattle.bench_base.specs.Rules.{first_rules, editions};
 ghost use Rattle.bench_base.specs.Ranges.{InRange};
 ghost use Rattle.bench_base.specs.Ledger.{Ledger, torn_of, counted};

@@ -1,8 +1,6 @@
 -- Which rulings of a device are acknowledged, and the one that is in flight. Amounts are in mills.
 use Rattle.std.specs.Prelude.{ℕ, ◌+◌, ◌&&◌, List, [], ◌∷◌, Option, Some, None, ◌==◌, nat_le, if◌then◌else◌}
-use Rattle.bench_base.specs.declared.words.Verdict.{Verdict}
-use Rattle.bench_base.specs.declared.ledger.Commit.{Commit}
-use Rattle.bench_base.specs.declared.ledger.Commit.TheVariants.{Ruled}
+use Rattle.bench_base.specs.declared.{words.Verdict.Verdict, ledger.Commit.Commit, ledger.Commit.TheVariants.Ruled}
 use Rattle.bench_base.specs.Rows.{first_of}
 use Rattle.psd_wire.specs.declared.message.Request.{Request}
 use Rattle.ledger_terms.specs.Requests.{request_in}

@@ -1,10 +1,7 @@
 -- What every history meets: nine clauses that hold of each prefix of the ledger. They say what the newest of its counted commits may be
 -- after those before it.
 use Rattle.std.specs.Prelude.{◌≡◌, ℕ, ℤ, pos, ◌+◌, ◌-◌, ◌+ℤ◌, ◌≤◌, ◌≤ℤ◌, ◌<ℤ◌, Bool, true, false, List, [], ◌∷◌, Option, Some, None, IsSome, ◌==◌, ◌&&◌, ◌⊎◌, if◌then◌else◌}
-use Rattle.bench_base.specs.declared.words.Phase.TheVariants.{InService}
-use Rattle.bench_base.specs.declared.ledger.Commit.{Commit}
-use Rattle.bench_base.specs.declared.ledger.Commit.TheVariants.{Asked, Applied, Debited, Ruled, Settled, Held, Accepted}
-use Rattle.bench_base.specs.declared.ledger.Entry.TheVariants.{Released, Printed}
+use Rattle.bench_base.specs.declared.{words.Phase.TheVariants.InService, ledger.Commit.Commit, ledger.Commit.TheVariants.Asked, ledger.Commit.TheVariants.Applied, ledger.Commit.TheVariants.Debited, ledger.Commit.TheVariants.Ruled, ledger.Commit.TheVariants.Settled, ledger.Commit.TheVariants.Held, ledger.Commit.TheVariants.Accepted, ledger.Entry.TheVariants.Released, ledger.Entry.TheVariants.Printed}
 use Rattle.bench_base.specs.Rules.{Rules}
 use Rattle.bench_base.specs.Kinds.{is_granted, empties}
 use Rattle.bench_base.specs.Ledger.{Ledger, counted, IsReleased, IsReleasedAs, IsPrinted}

@@ -1,12 +1,8 @@
 -- The Request that has a number of a device.
 use Rattle.std.specs.Prelude.{ℕ, pos, ◌&&◌, List, [], ◌∷◌, Option, Some, None, Result, Ok, ◌==◌, if◌then◌else◌}
-use Rattle.bench_base.specs.declared.words.Kind.TheVariants.{Audit}
-use Rattle.bench_base.specs.declared.refusals.Unread.{Unread}
-use Rattle.bench_base.specs.declared.ledger.Commit.{Commit}
-use Rattle.bench_base.specs.declared.ledger.Commit.TheVariants.{Asked}
+use Rattle.bench_base.specs.declared.{words.Kind.TheVariants.Audit, refusals.Unread.Unread, ledger.Commit.Commit, ledger.Commit.TheVariants.Asked}
 use Rattle.bench_base.specs.Rows.{first_of}
-use Rattle.psd_wire.specs.declared.message.Request.{Request}
-use Rattle.psd_wire.specs.declared.message.Message.{Message}
+use Rattle.psd_wire.specs.declared.{message.Request.Request, message.Message.Message}
 use Rattle.psd_wire.specs.declared.message.Message.TheVariants as m
 use Rattle.psd_wire.specs.Grammar.{read}
 

@@ -10,16 +10,13 @@ use Rattle.script_text.specs.Texts.{IsWholeReply}
 use Rattle.line_runs.specs.Lines.{ended}
 use Rattle.line_runs.specs.Turns.{Reported, LineEnd}
 use Rattle.line_runs.specs.declared.status.Status.TheVariants as status
-use Rattle.line_runs.specs.declared.status.SideStatus.{SideStatus}
-use Rattle.line_runs.specs.declared.status.SideStatus.TheVariants.{Run, Stopped}
+use Rattle.line_runs.specs.declared.{status.SideStatus.SideStatus, status.SideStatus.TheVariants.Run, status.SideStatus.TheVariants.Stopped}
 use Rattle.line_extensions.specs.Trace.{StepRecord, Skipped, Did, line_of}
 use Rattle.line_extensions.specs.Desks.{World, world, SideLeaves, side_lines, Asks, Does}
 use Rattle.line_extensions.specs.Events.{IsLineOf}
 use Rattle.line_extensions.specs.SideTrace.{Plain, Own, Broken}
 use Rattle.line_extensions.specs.Wants.{IsEvent}
-use Rattle.line_extensions.specs.declared.extension.Extension.{Ghosts}
-use Rattle.line_extensions.specs.declared.extension.Next.{Next}
-use Rattle.line_extensions.specs.declared.extension.Next.TheVariants.{Say, Stop}
+use Rattle.line_extensions.specs.declared.{extension.Extension.Ghosts, extension.Next.Next, extension.Next.TheVariants.Say, extension.Next.TheVariants.Stop}
 
 module _ {K T : Type 0} (k : Ghosts K T) {B : Type 0} (Steps : B → B → StepRecord → Turn → Type 0) (Wants : B → B → Type 0) (number : ℕ) (line : List ℕ) where
   abbrev pub End : Option SideStatus → World B K → World B K → Option (List ℕ) → Option (List ℕ) → Type 0

@@ -5,8 +5,7 @@ use Rattle.line_runs.specs.Trace.{Lines, Reads}
 use Rattle.line_runs.specs.Lines.{IsCutOff}
 use Rattle.line_runs.specs.Runs.{EndsIn, Replayed}
 use Rattle.line_runs.specs.declared.status.Status.TheVariants as status
-use Rattle.line_runs.specs.declared.status.SideStatus.{SideStatus}
-use Rattle.line_runs.specs.declared.status.SideStatus.TheVariants.{Run, Stopped}
+use Rattle.line_runs.specs.declared.{status.SideStatus.SideStatus, status.SideStatus.TheVariants.Run, status.SideStatus.TheVariants.Stopped}
 use Rattle.line_extensions.specs.Desks.{side_lines}
 use Rattle.line_extensions.specs.SideTrace.{SideStep, Plain, Own, Broken, IsBroken}
 use Rattle.line_extensions.specs.declared.extension.Extension.{Ghosts}

@@ -12,8 +12,7 @@ use Rattle.node_acts.specs.RowList.{RowList, put}
 use Rattle.row_node.specs.Shows.{ShowsRows}
 use Rattle.row_store.specs.Commits.{CommitsRow}
 use Rattle.row_store.specs.Seen.{ReadsAs}
-use Rattle.line_runs.specs.declared.status.SideStatus.{SideStatus}
-use Rattle.line_runs.specs.declared.status.SideStatus.TheVariants.{Stopped}
+use Rattle.line_runs.specs.declared.{status.SideStatus.SideStatus, status.SideStatus.TheVariants.Stopped}
 use Rattle.line_extensions.specs.SideTrace.{SideStep}
 use Rattle.line_extensions.specs.Stops as stops
 use Rattle.line_extensions.specs.Stops.{HasBroken, RowCommit, DeskView, rows_seen, meters_seen, row_view}

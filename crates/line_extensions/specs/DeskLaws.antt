@@ -3,8 +3,7 @@ use Rattle.std.proofs.Common.{◌≢◌, inl, inr, ℕ, List, [], ◌∷◌, ◌
 use Rattle.line_runs.specs.Trace.{FitsGrammar}
 use Rattle.line_runs.specs.Turns.{AreDone}
 use Rattle.line_runs.specs.declared.status.Status.TheVariants as status
-use Rattle.line_runs.specs.declared.status.SideStatus.{SideStatus}
-use Rattle.line_runs.specs.declared.status.SideStatus.TheVariants.{Run, Stopped}
+use Rattle.line_runs.specs.declared.{status.SideStatus.SideStatus, status.SideStatus.TheVariants.Run, status.SideStatus.TheVariants.Stopped}
 use Rattle.line_extensions.specs.Trace.{StepRecord, Skipped, Did}
 use Rattle.line_extensions.specs.Scripts.{script_grammar}
 use Rattle.line_extensions.specs.ScriptLaws as script
@@ -12,8 +11,7 @@ use Rattle.line_extensions.specs.SideTrace.{SideStep, Plain, Own, Broken, side_l
 use Rattle.line_extensions.specs.Desks.{World, world, SideLeaves, side_grammar, side_lines, Asks, DoesOne, Does}
 use Rattle.line_extensions.specs.Wants.{IsAlone}
 use Rattle.node_turns.specs.declared.turn.Turn.{Turn}
-use Rattle.line_extensions.specs.declared.extension.Extension.{Ghosts}
-use Rattle.line_extensions.specs.declared.extension.Next.{Next}
+use Rattle.line_extensions.specs.declared.{extension.Extension.Ghosts, extension.Next.Next}
 
 -- what says that events were done follows from what says that one step was done
 pub record IsChain {B : Type 0} (Steps : B → B → StepRecord → Turn → Type 0) (DidEvents : B → B → List StepRecord → Type 0) : Type 0 where

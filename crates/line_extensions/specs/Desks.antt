@@ -5,15 +5,12 @@ use Rattle.bench_base.specs.declared.events.Event.TheVariants as ev
 use Rattle.node_turns.specs.declared.turn.Turn.{Turn}
 use Rattle.line_runs.specs.Trace.{Grammar, Lines}
 use Rattle.line_runs.specs.declared.status.Status.TheVariants as status
-use Rattle.line_runs.specs.declared.status.SideStatus.{SideStatus}
-use Rattle.line_runs.specs.declared.status.SideStatus.TheVariants.{Run, Stopped}
+use Rattle.line_runs.specs.declared.{status.SideStatus.SideStatus, status.SideStatus.TheVariants.Run, status.SideStatus.TheVariants.Stopped}
 use Rattle.line_extensions.specs.Trace.{StepRecord, Skipped, Did}
 use Rattle.line_extensions.specs.Events.{IsLineOf}
 use Rattle.line_extensions.specs.Scripts.{script_grammar}
 use Rattle.line_extensions.specs.SideTrace.{SideStep, Plain, Own, Broken, side_line, side_text, SideIsOf, SideIsEnd, SideGoesOn, IsBroken}
-use Rattle.line_extensions.specs.declared.extension.Extension.{Ghosts}
-use Rattle.line_extensions.specs.declared.extension.Next.{Next}
-use Rattle.line_extensions.specs.declared.extension.Next.TheVariants.{Step, Say, Stop}
+use Rattle.line_extensions.specs.declared.{extension.Extension.Ghosts, extension.Next.Next, extension.Next.TheVariants.Step, extension.Next.TheVariants.Say, extension.Next.TheVariants.Stop}
 
 pub record World (B K : Type 0) : Type 0 where
   pub scene : B

@@ -9,8 +9,7 @@ use Rattle.node_acts.specs.RowList.{RowList, put}
 use Rattle.row_node.specs.Shows.{ShowsRows}
 use Rattle.row_store.specs.Commits.{RowView}
 use Rattle.row_store.specs.Seen.{ReadsAs, seen_in}
-use Rattle.line_runs.specs.declared.status.SideStatus.{SideStatus}
-use Rattle.line_runs.specs.declared.status.SideStatus.TheVariants.{Stopped}
+use Rattle.line_runs.specs.declared.{status.SideStatus.SideStatus, status.SideStatus.TheVariants.Stopped}
 use Rattle.line_extensions.specs.SideTrace.{SideStep, Plain, Own, Broken}
 
 -- a commit of the extension's failed at one of the lines

@@ -5,8 +5,7 @@ use Rattle.bench_base.specs.declared.events.Event.TheVariants as ev
 use Rattle.bench_base.specs.Events.{IsWholeEvent}
 use Rattle.script_text.specs.Grammar.{Spells, IsSkipped}
 use Rattle.line_extensions.specs.Events.{IsLineOf}
-use Rattle.line_extensions.specs.declared.extension.Next.{Next}
-use Rattle.line_extensions.specs.declared.extension.Next.TheVariants.{Step, Say, Stop}
+use Rattle.line_extensions.specs.declared.{extension.Next.Next, extension.Next.TheVariants.Step, extension.Next.TheVariants.Say, extension.Next.TheVariants.Stop}
 
 -- an event that sends nothing, whatever the storages expose: a scan of bytes
 abbrev pub IsQuiet : Event → Type 0

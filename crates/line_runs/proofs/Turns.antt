@@ -6,12 +6,10 @@ use Rattle.std.proofs.lemmas.Grind.{flat_map-append}
 use Rattle.std.proofs.lemmas.List.{length-append, length-take}
 use Rattle.std.proofs.KnownBytes.{Consumes-trans, Consumes-nil, Appends-trans, Appends-nil}
 use Rattle.std.specs.Io.KnownBytes.{Consumes, Appends, IsAtEnd}
-use Rattle.line_runs.specs.declared.lines.LineRead.{LineRead}
+use Rattle.line_runs.specs.declared.{lines.LineRead.LineRead, status.SideStatus.SideStatus, status.SideStatus.TheVariants.Run, status.SideStatus.TheVariants.Stopped}
 use Rattle.line_runs.specs.declared.lines.LineRead.TheVariants as read
 use Rattle.line_runs.specs.Lines.{IsOneLine, ended, IsLineIn, ReadsLine}
 use Rattle.line_runs.specs.declared.status.Status.TheVariants as status
-use Rattle.line_runs.specs.declared.status.SideStatus.{SideStatus}
-use Rattle.line_runs.specs.declared.status.SideStatus.TheVariants.{Run, Stopped}
 use Rattle.line_runs.specs.Trace.{Lines, Reads}
 use Rattle.line_runs.specs.Runs.{IsBadPlace, DidLast, RanOut, EndsIn, Replayed}
 use Rattle.line_runs.specs.Turns.{AreDone, DidLine, Refused, Wanted, LineEnd, Ended, Goes, Stops, Progress}

@@ -6,8 +6,7 @@ use Rattle.std.proofs.lemmas.Grind.{flat_map-append}
 use Rattle.std.proofs.lemmas.List.Elements.{Contains-append_left, Contains-append_right}
 use Rattle.std.proofs.lemmas.Option.{same_Some}
 use Rattle.bench_base.specs.declared.events.Event.TheVariants as ev
-use Rattle.bench_base.specs.declared.ledger.Commit.TheVariants.{Accepted}
-use Rattle.bench_base.specs.declared.refusals.MarkFault.{MarkFault}
+use Rattle.bench_base.specs.declared.{ledger.Commit.TheVariants.Accepted, refusals.MarkFault.MarkFault}
 use Rattle.bench_base.specs.Ledger.{Ledger, counted}
 use Rattle.bench_base.specs.Rules.{editions}
 use Rattle.bench_base.specs.Scans.{accepted}
@@ -30,8 +29,7 @@ use Rattle.script_replay.specs.Trace.{ledger_after}
 use Rattle.mail_manifest.specs.Answers.{AreAccepted, IsGood, IsAnswered, AreAnswered}
 use Rattle.mail_manifest.specs.Holds.{IsMail, debit_in, debited_in_all, ManifestHolds, IsYes, IsGoodBehind, YesHolds}
 use Rattle.mail_manifest.specs.Listings.{Listing, mark_at, postage_in, postage_of, postage_in_all}
-use Rattle.mail_manifest.specs.declared.opening.ManifestLine.{ManifestLine}
-use Rattle.mail_manifest.specs.declared.opening.ManifestLine.TheVariants.{Check}
+use Rattle.mail_manifest.specs.declared.{opening.ManifestLine.ManifestLine, opening.ManifestLine.TheVariants.Check}
 use Rattle.mail_manifest.proofs.Judging.{yes_told, none_is_no_yes}
 
 -- == the scans of a check ==

@@ -8,9 +8,7 @@ use Rattle.mail_manifest.specs.Courses.{scan_of}
 use Rattle.mail_manifest.specs.Listings.{Listing, opened, with_mark, code_of, AllRead, postage_in_all}
 use Rattle.mail_manifest.specs.ManifestLines.{IsManifestLine}
 use Rattle.mail_manifest.specs.Texts.{said_texts, open_text, piece_text, code_text, yes_text, no_piece_text}
-use Rattle.mail_manifest.specs.declared.opening.ManifestLine.{ManifestLine}
-use Rattle.mail_manifest.specs.declared.opening.ManifestLine.TheVariants.{Open, Piece, Code, Check}
-use Rattle.mail_manifest.specs.declared.answer.Answer.{Answer}
+use Rattle.mail_manifest.specs.declared.{opening.ManifestLine.ManifestLine, opening.ManifestLine.TheVariants.Open, opening.ManifestLine.TheVariants.Piece, opening.ManifestLine.TheVariants.Code, opening.ManifestLine.TheVariants.Check, answer.Answer.Answer}
 
 -- it was answered so without a scan, and the manifest is this one then
 pub record IsTold (answer : List ℕ) (left : Option Listing) (steps : List StepRecord) (texts : List (List ℕ)) (after : Option Listing) : Type 0 where

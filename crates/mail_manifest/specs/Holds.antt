@@ -1,8 +1,6 @@
 -- What is promised of a manifest with a check that was answered yes, by a ledger.
 use Rattle.std.specs.Prelude.{◌≡◌, ◌<◌, ℕ, ◌+◌, List, [], ◌∷◌, ◌++◌, length, Some, None, Result, Ok, Err, sum_by, unwrap_or, Contains}
-use Rattle.bench_base.specs.declared.ledger.Commit.{Commit}
-use Rattle.bench_base.specs.declared.ledger.Commit.TheVariants.{Accepted}
-use Rattle.bench_base.specs.declared.refusals.MarkFault.{MarkFault}
+use Rattle.bench_base.specs.declared.{ledger.Commit.Commit, ledger.Commit.TheVariants.Accepted, refusals.MarkFault.MarkFault}
 use Rattle.bench_base.specs.Ledger.{Ledger, IsReleased, counted}
 use Rattle.line_extensions.specs.Trace.{StepRecord}
 use Rattle.line_extensions.specs.SideTrace.{SideStep, Own}
@@ -13,8 +11,7 @@ use Rattle.scan_laws.specs.Acceptances.{IsOfPiece}
 use Rattle.mail_manifest.specs.Answers.{AreAnswered}
 use Rattle.mail_manifest.specs.Listings.{Listing, mark_at}
 use Rattle.mail_manifest.specs.Texts.{yes_text}
-use Rattle.mail_manifest.specs.declared.opening.ManifestLine.{ManifestLine}
-use Rattle.mail_manifest.specs.declared.opening.ManifestLine.TheVariants.{Check}
+use Rattle.mail_manifest.specs.declared.{opening.ManifestLine.ManifestLine, opening.ManifestLine.TheVariants.Check}
 
 -- the bytes are a released mark, its piece is accepted under this number and no other, and it shows the postage of its debit
 pub record IsMail (number : ℕ) (bytes : List ℕ) (H : Ledger) : Type 0 where

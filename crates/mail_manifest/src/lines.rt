@@ -5,9 +5,8 @@ ghost use Rattle.bench_base.specs.Table.{IsBytes};
 ghost use Rattle.script_words.specs.Words.{words_in, hex_word};
 ghost use Rattle.mail_manifest.specs.Listings.{IsOpening};
 ghost use Rattle.mail_manifest.specs.ManifestLines.{IsOpenLine, IsInRange, IsManifestLine, open_words, line_words};
-ghost use Rattle.mail_manifest.specs.declared.opening.ManifestLine.{ManifestLine as TheLine};
+ghost use Rattle.mail_manifest.specs.declared.{opening.ManifestLine.ManifestLine as TheLine, opening.Opening.Opening as TheOpening};
 ghost use Rattle.mail_manifest.specs.declared.opening.ManifestLine.TheVariants as own;
-ghost use Rattle.mail_manifest.specs.declared.opening.Opening.{Opening as TheOpening};
 
 use crate::opening::{MOST_PIECES, ManifestLine, Opening};
 use bench_base::bytes::Given;

@@ -1,9 +1,7 @@
 -- A call of a node, by what it does where its storage does not fail: its act.
 use Rattle.std.specs.Prelude.{◌≡◌, ℕ, Bool, true, false, Option, Some, None, if◌then◌else◌}
 use Rattle.bench_base.specs.declared.ledger.Commit.{Commit}
-use Rattle.node_acts.specs.declared.act.Act.{Act}
-use Rattle.node_acts.specs.declared.act.Act.TheVariants.{Refuse, Tell, Commits}
-use Rattle.node_acts.specs.declared.act.Outcome.{Outcome}
+use Rattle.node_acts.specs.declared.{act.Act.Act, act.Act.TheVariants.Refuse, act.Act.TheVariants.Tell, act.Act.TheVariants.Commits, act.Outcome.Outcome}
 use Rattle.node_acts.specs.declared.act.Outcome.TheVariants as o
 use Rattle.node_acts.specs.Views.{Counting, View, committed, torn}
 

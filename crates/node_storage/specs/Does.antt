@@ -1,11 +1,8 @@
 -- What the calls of a node do to its record and its storage.
 use Rattle.std.specs.Prelude.{◌≡◌, ◌↔◌, ◌⊎◌, List, ℕ, Bool, true, Result, Ok, Err, OnOk, OnErr, IsErrOf}
-use Rattle.bench_base.specs.declared.refusals.BootFail.{BootFail}
+use Rattle.bench_base.specs.declared.{refusals.BootFail.BootFail, refusals.StoreFail.StoreFail, refusals.StoreFail.TheVariants.Worn, refusals.StoreFail.TheVariants.Failed}
 use Rattle.bench_base.specs.declared.refusals.BootFail.TheVariants as boot
-use Rattle.bench_base.specs.declared.refusals.StoreFail.{StoreFail}
-use Rattle.bench_base.specs.declared.refusals.StoreFail.TheVariants.{Worn, Failed}
-use Rattle.nv_model.specs.declared.nv.Nv.{Ghosts}
-use Rattle.nv_model.specs.declared.nv.NvFail.{NvFail}
+use Rattle.nv_model.specs.declared.{nv.Nv.Ghosts, nv.NvFail.NvFail}
 use Rattle.nv_model.specs.Meters.{Restarts, UsesExactly}
 use Rattle.nv_model.specs.Moments.{Elapses}
 use Rattle.nv_store.specs.Fills.{Fill, Fills, told}

@@ -1,9 +1,6 @@
 -- A call that answers a result, of a value that keeps a node and the commit of it that failed.
 use Rattle.std.specs.Prelude.{◌≡◌, ◌≢◌, List, ℕ, Option, Some, None, Result, Ok, Err, is_ok}
-use Rattle.bench_base.specs.declared.ledger.Commit.{Commit}
-use Rattle.bench_base.specs.declared.refusals.Fail.{Fail}
-use Rattle.bench_base.specs.declared.refusals.Fail.TheVariants.{Refused, Store}
-use Rattle.bench_base.specs.declared.refusals.StoreFail.TheVariants.{Power, Fault, Worn, Failed}
+use Rattle.bench_base.specs.declared.{ledger.Commit.Commit, refusals.Fail.Fail, refusals.Fail.TheVariants.Refused, refusals.Fail.TheVariants.Store, refusals.StoreFail.TheVariants.Power, refusals.StoreFail.TheVariants.Fault, refusals.StoreFail.TheVariants.Worn, refusals.StoreFail.TheVariants.Failed}
 use Rattle.nv_model.specs.declared.nv.Nv as nv
 use Rattle.nv_store.specs.Fills.{Fill}
 use Rattle.nv_store.specs.Turns.{End, Turn}

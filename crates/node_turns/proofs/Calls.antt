@@ -2,12 +2,9 @@
 use Rattle.std.proofs.Common.{◌≡◌, ◌≢◌, ◌⊎◌, inl, inr, ℕ, ℤ, ◌≤◌, List, [], ◌∷◌, ◌++◌, append-nil, Option, Some, None, Bool, true, false, not, ◌&&◌, ◌↔◌, refl, sym, ◌∙◌, ap, subst, true≢false, arith, if◌then◌else◌}
 use Rattle.std.specs.Prelude.{IfSome}
 use Rattle.std.proofs.Math.Bool.{and-true, and-false}
-use Rattle.bench_base.specs.declared.words.Node.{Node}
-use Rattle.bench_base.specs.declared.ledger.Commit.{Commit}
+use Rattle.bench_base.specs.declared.{words.Node.Node, ledger.Commit.Commit, events.Event.Event, events.Reply.Reply}
 use Rattle.bench_base.specs.declared.ledger.Entry.TheVariants as entry
-use Rattle.bench_base.specs.declared.events.Event.{Event}
 use Rattle.bench_base.specs.declared.events.Event.TheVariants as ev
-use Rattle.bench_base.specs.declared.events.Reply.{Reply}
 use Rattle.bench_base.specs.declared.events.Reply.TheVariants as r
 use Rattle.bench_base.specs.Events.{node_for, needs_on, may_commit, calls_of, IsAt}
 use Rattle.bench_base.specs.Ledger.{Ledger}
@@ -20,18 +17,12 @@ use Rattle.nv_model.specs.Meters.{Meters, Uses}
 use Rattle.nv_store.specs.Mounts.{Mounts}
 use Rattle.nv_store.specs.Store.{UsesCommit}
 use Rattle.nv_store.specs.Turns.{Spent}
-use Rattle.node_acts.specs.declared.act.Act.{Act}
-use Rattle.node_acts.specs.declared.act.Act.TheVariants.{Refuse, Tell, Commits}
-use Rattle.node_acts.specs.declared.act.Outcome.{Outcome}
+use Rattle.node_acts.specs.declared.{act.Act.Act, act.Act.TheVariants.Refuse, act.Act.TheVariants.Tell, act.Act.TheVariants.Commits, act.Outcome.Outcome, asked.Asked.TheVariants.Call, said.Said.Said, said.GivenOut.GivenOut, said.GivenOut.TheVariants.Released, said.GivenOut.TheVariants.Printed}
 use Rattle.node_acts.specs.declared.act.Outcome.TheVariants as o
-use Rattle.node_acts.specs.declared.asked.Asked.TheVariants.{Call}
-use Rattle.node_acts.specs.declared.said.Said.{Said}
 use Rattle.node_acts.specs.Views.{View}
 use Rattle.node_acts.specs.Acts.{cost, has_failed, commit_of, outcome_in, MayCome, TellsOf, CommitsSome, CameOf}
 use Rattle.node_acts.specs.Acts as acts
 use Rattle.node_acts.specs.Plans.{after, with_commit, act_entries, MayReply, view_after, IsOfNode}
-use Rattle.node_acts.specs.declared.said.GivenOut.{GivenOut}
-use Rattle.node_acts.specs.declared.said.GivenOut.TheVariants.{Released, Printed}
 use Rattle.node_acts.specs.Said.{IsPlain, planned_commit, with_given, with_sent, tells, seen_plan, said_reply, said_entries}
 use Rattle.node_acts.specs.Kinds.{Kind}
 use Rattle.node_acts.proofs.Told.{Tells, tells_call}

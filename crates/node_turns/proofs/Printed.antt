@@ -1,25 +1,14 @@
 -- A node that was called, and what was printed of what it gave to the printer.
 use Rattle.std.proofs.Common.{◌≡◌, inl, inr, ℕ, ℤ, ◌≤◌, List, [], ◌∷◌, ◌++◌, Option, Some, None, option_map, Bool, true, false, refl, sym, ◌∙◌, ap, subst, arith, if◌then◌else◌}
-use Rattle.bench_base.specs.declared.words.Node.{Node}
-use Rattle.bench_base.specs.declared.ledger.Commit.{Commit}
-use Rattle.bench_base.specs.declared.ledger.Entry.{Entry}
+use Rattle.bench_base.specs.declared.{words.Node.Node, ledger.Commit.Commit, ledger.Entry.Entry, events.Event.Event, events.Reply.Reply}
 use Rattle.bench_base.specs.declared.ledger.Entry.TheVariants as entry
-use Rattle.bench_base.specs.declared.events.Event.{Event}
-use Rattle.bench_base.specs.declared.events.Reply.{Reply}
 use Rattle.bench_base.specs.declared.events.Reply.TheVariants as r
 use Rattle.bench_base.specs.Replies.{ReplyClass, Did, Refused, PrinterFailed, class_of, arms, leaves_on, MayGet}
 use Rattle.bench_base.specs.Plans.{Plan, refuse, made}
 use Rattle.nv_model.specs.declared.nv.Nv as nv
 use Rattle.nv_model.specs.declared.fuse.Fuse as fuse
-use Rattle.node_acts.specs.declared.act.Act.{Act}
-use Rattle.node_acts.specs.declared.act.Act.TheVariants.{Refuse, Tell, Commits}
-use Rattle.node_acts.specs.declared.act.Outcome.{Outcome}
+use Rattle.node_acts.specs.declared.{act.Act.Act, act.Act.TheVariants.Refuse, act.Act.TheVariants.Tell, act.Act.TheVariants.Commits, act.Outcome.Outcome, asked.Asked.TheVariants.Call, said.Said.Said, said.Printed.Printed as Print, said.GivenOut.GivenOut, said.GivenOut.TheVariants.Released, said.GivenOut.TheVariants.Printed}
 use Rattle.node_acts.specs.declared.act.Outcome.TheVariants as o
-use Rattle.node_acts.specs.declared.asked.Asked.TheVariants.{Call}
-use Rattle.node_acts.specs.declared.said.Said.{Said}
-use Rattle.node_acts.specs.declared.said.Printed.{Printed as Print}
-use Rattle.node_acts.specs.declared.said.GivenOut.{GivenOut}
-use Rattle.node_acts.specs.declared.said.GivenOut.TheVariants.{Released, Printed}
 use Rattle.node_acts.specs.Views.{View}
 use Rattle.node_acts.specs.Acts.{MayCome, TellsOf, commit_of, outcome_in}
 use Rattle.node_acts.specs.Plans.{after_told, with_commit, done_plan, act_entries, FailsTold, MayReply, view_told}

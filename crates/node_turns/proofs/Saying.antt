@@ -1,17 +1,12 @@
 -- What a call did, in replies: its refusals are replied and its answers said, and the rest of it stays as it is.
 use Rattle.std.proofs.Common.{◌≡◌, ℕ, Option, Some, None, Bool, true, false, not, ◌&&◌, ◌↔◌, if◌then◌else◌, refl, sym, ◌∙◌, ap, subst, true≢false}
 use Rattle.std.specs.Prelude.{IfSome}
-use Rattle.bench_base.specs.declared.words.Node.{Node}
-use Rattle.bench_base.specs.declared.ledger.Commit.{Commit}
-use Rattle.bench_base.specs.declared.events.Reply.{Reply}
+use Rattle.bench_base.specs.declared.{words.Node.Node, ledger.Commit.Commit, events.Reply.Reply}
 use Rattle.nv_model.specs.declared.nv.Nv as nv
 use Rattle.nv_store.specs.Turns.{End, Spent}
 use Rattle.nv_store.specs.Turns as stored
-use Rattle.node_acts.specs.declared.act.Act.{Act}
-use Rattle.node_acts.specs.declared.act.Act.TheVariants.{Refuse, Tell, Commits}
-use Rattle.node_acts.specs.declared.act.Outcome.{Outcome}
+use Rattle.node_acts.specs.declared.{act.Act.Act, act.Act.TheVariants.Refuse, act.Act.TheVariants.Tell, act.Act.TheVariants.Commits, act.Outcome.Outcome, said.Said.Said}
 use Rattle.node_acts.specs.declared.act.Outcome.TheVariants as o
-use Rattle.node_acts.specs.declared.said.Said.{Said}
 use Rattle.node_acts.specs.Acts.{commit_of, outcome_in, outcome_of, MayCome, MayTear, TellsOf, CommitsSome, CameOf, after_call, cost, has_failed, is_refusal}
 use Rattle.node_acts.specs.Said.{saying, planned_commit}
 use Rattle.node_acts.specs.Views.{Counting, View}

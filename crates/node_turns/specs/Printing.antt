@@ -3,24 +3,15 @@ use Rattle.std.specs.Prelude.{◌≡◌, ◌≢◌, ◌<◌, ◌≤◌, ℕ, ℤ
 use Rattle.std.specs.Io.KnownBytes.{Appends}
 use Rattle.bench_base.specs.Causes.{Rose}
 use Rattle.bench_base.specs.declared.stream.Sink as sink
-use Rattle.bench_base.specs.declared.words.Node.{Node}
-use Rattle.bench_base.specs.declared.ledger.Commit.{Commit}
-use Rattle.bench_base.specs.declared.ledger.Entry.{Entry}
+use Rattle.bench_base.specs.declared.{words.Node.Node, ledger.Commit.Commit, ledger.Entry.Entry, events.Reply.Reply}
 use Rattle.bench_base.specs.declared.ledger.Entry.TheVariants as entry
-use Rattle.bench_base.specs.declared.events.Reply.{Reply}
 use Rattle.bench_base.specs.declared.events.Reply.TheVariants as r
-use Rattle.node_acts.specs.declared.act.Act.{Act}
-use Rattle.node_acts.specs.declared.act.Outcome.{Outcome}
+use Rattle.node_acts.specs.declared.{act.Act.Act, act.Outcome.Outcome, said.Said.Said, said.Printed.Printed as Print, said.GivenOut.GivenOut, said.GivenOut.TheVariants.Released, said.GivenOut.TheVariants.Printed, asked.Asked.Asked}
 use Rattle.node_acts.specs.declared.act.Outcome.TheVariants as o
-use Rattle.node_acts.specs.declared.said.Said.{Said}
-use Rattle.node_acts.specs.declared.said.Printed.{Printed as Print}
-use Rattle.node_acts.specs.declared.said.GivenOut.{GivenOut}
-use Rattle.node_acts.specs.declared.said.GivenOut.TheVariants.{Released, Printed}
 use Rattle.node_acts.specs.Plans.{with_commit}
 use Rattle.node_acts.specs.Said.{planned_commit}
 use Rattle.text_streams.specs.Texts.{print_line}
 use Rattle.nv_model.specs.declared.nv.Nv as nv
-use Rattle.node_acts.specs.declared.asked.Asked.{Asked}
 use Rattle.node_acts.specs.Views.{View}
 use Rattle.node_acts.specs.Kinds.{Kind}
 use Rattle.node_storage.specs.declared.node.Node.{Ghosts}

@@ -1,9 +1,7 @@
 //! A call of one node, and how it is reported.
 ghost use Rattle.std.specs.Prelude.{◌≡◌, true};
 ghost use Rattle.bench_base.specs.declared.events.Reply.{Reply};
-ghost use Rattle.node_acts.specs.declared.act.Act.{Act};
-ghost use Rattle.node_acts.specs.declared.act.Outcome.{Outcome};
-ghost use Rattle.node_acts.specs.declared.said.Said.{Said};
+ghost use Rattle.node_acts.specs.declared.{act.Act.Act, act.Outcome.Outcome, said.Said.Said};
 ghost use Rattle.node_acts.specs.Said.{saying};
 ghost use Rattle.node_turns.specs.declared.turn.Turn.{Turn};
 ghost use Rattle.node_turns.specs.Printing as prints;

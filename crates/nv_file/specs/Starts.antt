@@ -1,7 +1,6 @@
 -- What contracts see of storages that start together.
 use Rattle.std.specs.Prelude.{Bool, List}
-use Rattle.nv_file.specs.declared.file.FileNv.{FileNv}
-use Rattle.nv_file.specs.declared.starting.Starting.{Starting}
+use Rattle.nv_file.specs.declared.{file.FileNv.FileNv, starting.Starting.Starting}
 
 -- the storages, in the order of their files
 abbrev pub stores_of : Starting → List FileNv

@@ -5,8 +5,7 @@ use Rattle.std.proofs.lemmas.List.{take-append-le, drop-append-le, take_all, get
 use Rattle.nv_model.specs.Bytes.{SameOutside, laid, range}
 use Rattle.nv_model.specs.Moments.{IsImage, Writes}
 use Rattle.nv_model.specs.Replay.{Stand, after_step, replay, at_first, stood, marked, Passed, Stands, SinceMoment, fits_all, within}
-use Rattle.nv_model.specs.declared.step.Step.{Step}
-use Rattle.nv_model.specs.declared.step.Step.TheVariants.{Written, Torn, Synced}
+use Rattle.nv_model.specs.declared.{step.Step.Step, step.Step.TheVariants.Written, step.Step.TheVariants.Torn, step.Step.TheVariants.Synced}
 use Rattle.nv_model.proofs.Ranges.{laid_outside, laid_range}
 use Rattle.nv_model.proofs.Images.{byte_outside, image_alone}
 

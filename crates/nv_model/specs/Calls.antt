@@ -3,8 +3,7 @@ use Rattle.std.specs.Prelude.{◌≡◌, ℕ, Bool, true, false, List, length, R
 use Rattle.nv_model.specs.Bytes.{SameOutside, laid, range}
 use Rattle.nv_model.specs.Meters.{Meters, Answers, Restarts, after_call, burns}
 use Rattle.nv_model.specs.Moments.{Times, Image, Only, Elapses, Tears, Stays, Writes, Unwritten, SamePlaces}
-use Rattle.nv_model.specs.declared.nv.NvFail.{NvFail}
-use Rattle.nv_model.specs.declared.nv.NvFail.TheVariants.{Power, Fault}
+use Rattle.nv_model.specs.declared.{nv.NvFail.NvFail, nv.NvFail.TheVariants.Power, nv.NvFail.TheVariants.Fault}
 
 -- The ghost members of a storage. It exposes its bytes or not, and has a size. Its contents are what a read gives, what was
 -- last made durable, and which places were written since. It has its moment and images, and its counts.

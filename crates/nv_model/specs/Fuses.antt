@@ -3,9 +3,7 @@ use Rattle.std.specs.Prelude.{◌≡◌, ◌⊎◌, ℕ, List, length, Bool, tru
 use Rattle.nv_model.specs.Meters.{burns, Failing}
 use Rattle.nv_model.specs.Moments.{Only}
 use Rattle.nv_model.specs.Plans.{torn, last_filled, last_after_write, last_after_sync}
-use Rattle.nv_model.specs.declared.nv.NvFail.{NvFail}
-use Rattle.nv_model.specs.declared.nv.Nv.{Ghosts}
-use Rattle.nv_model.specs.declared.fused.Fused.{Fused}
+use Rattle.nv_model.specs.declared.{nv.NvFail.NvFail, nv.Nv.Ghosts, fused.Fused.Fused}
 
 -- the storage inside
 abbrev pub inside : {N : Type 0} {g : Ghosts N} → Fused N g → N

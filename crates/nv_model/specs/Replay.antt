@@ -2,8 +2,7 @@
 use Rattle.std.specs.Prelude.{◌⊎◌, ℕ, ◌+◌, ◌≤◌, ◌<◌, List, [], ◌∷◌, length, take, replicate, get_or, Bool, true, false, ◌||◌, ◌&&◌, nat_le, nat_lt}
 use Rattle.nv_model.specs.Bytes.{laid, range}
 use Rattle.nv_model.specs.Moments.{IsImage}
-use Rattle.nv_model.specs.declared.step.Step.{Step}
-use Rattle.nv_model.specs.declared.step.Step.TheVariants.{Written, Torn, Synced}
+use Rattle.nv_model.specs.declared.{step.Step.Step, step.Step.TheVariants.Written, step.Step.TheVariants.Torn, step.Step.TheVariants.Synced}
 
 -- the state at a moment: what a read gives, the content after the last sync or restart, and the places written since
 pub record Stand : Type 0 where

@@ -1,5 +1,5 @@
 -- A record's bytes fall into its parts, and the parts make its bytes, in each version.
-use Rattle.std.proofs.Common.{◌≡◌, ℕ, ℤ, [], ◌∷◌, ◌+◌, ◌-◌, ◌^◌, ◌<◌, ◌≤◌, ◌==◌, if◌then◌else◌, Bool, true, false, replicate, List, ◌++◌, length, take, drop, get_or, sym, ap, ap₂, ◌∙◌, refl, arith, subst, Option, Some, None, length-append, append_assoc, FitsSigned, Fits as Fits32, true≢false}
+use Rattle.std.proofs.Common.{◌≡◌, ℕ, ℤ, [], ◌∷◌, ◌+◌, ◌-◌, ◌^◌, ◌<◌, ◌≤◌, ◌==◌, if◌then◌else◌, Bool, true, false, replicate, List, ◌++◌, length, take, drop, get_or, sym, ap, ap₂, ◌∙◌, refl, arith, subst, Option, Some, None, length-append, append_assoc, FitsSigned, Fits as Fits32, true≢false, inl, inr}
 use Rattle.std.specs.Int.{w32, cast_signed, cast_unsigned}
 use Rattle.std.proofs.lemmas.Int.{of_z-to_z, to_z-of_z}
 use Rattle.std.proofs.lemmas.List.{take_at, drop_at, drop-drop, length-replicate}
@@ -10,18 +10,15 @@ use Rattle.indicium.specs.declared.Mark.{Mark}
 use Rattle.indicium.specs.Marks as marks
 use Rattle.indicium.proofs.Readings.{length_spell, read_spell}
 use Rattle.psd_wire.specs.Grammar.{body}
-use Rattle.psd_wire.proofs.Readings.{length_request, one_spelling, request_room, request_room_le, length_body_of, one_body, request_version}
+use Rattle.psd_wire.proofs.Readings.{length_request, one_spelling, request_room, request_room_le, length_body_of, one_body, request_version, byte_of}
 use Rattle.registers.specs.Sums.{Sums}
-use Rattle.bench_base.specs.declared.words.Phase.{Phase}
-use Rattle.bench_base.specs.declared.words.Phase.TheVariants.{Blank, Manufactured, Authorised, InService, Locked, Withdrawn}
+use Rattle.bench_base.specs.declared.{words.Phase.Phase, words.Phase.TheVariants.Blank, words.Phase.TheVariants.Manufactured, words.Phase.TheVariants.Authorised, words.Phase.TheVariants.InService, words.Phase.TheVariants.Locked, words.Phase.TheVariants.Withdrawn}
 use Rattle.bench_base.proofs.Facts.{read_sfits, ok_same, behind}
 use Rattle.psd_wire.specs.declared.message.Request.{Request}
 use Rattle.psd_wire.specs.declared.message.Message.TheVariants as m
 use Rattle.psd_wire.specs.Grammar as grammar
 use Rattle.std.specs.Prelude.{◌⊎◌, IfSome}
-use Rattle.std.proofs.Common.{inl, inr}
 use Rattle.std.proofs.lemmas.Bool.{eqb-true}
-use Rattle.psd_wire.proofs.Readings.{byte_of}
 use Rattle.psd_state.specs.State.{State, Holds, PendingOk, MarkOk, is_stored}
 use Rattle.psd_state.specs.declared.parts.Fields.{Fields}
 use Rattle.psd_state.specs.Payload.{phase_code, phase_byte, flag_of, head_table, head, middle_table, middle, filled, pending_room, pending_part, mark_part, end_part, head_part, middle_part, spelled, bytes_of, RangesIn, Ranges, IsOld, ReadsAs, fields_from, fields_at, fields_of, pending_place, mark_place, Parts, PendingWhole, MarkWhole, IsKeptAt}

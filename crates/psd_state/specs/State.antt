@@ -1,10 +1,7 @@
 -- A device's record, as its callers see it, and what holds of each. Money is in mills, days are since 1970-01-01.
 use Rattle.std.specs.Prelude.{◌≡◌, ℕ, ℤ, ◌+◌, ◌≤◌, ◌<◌, Bool, true, false, List, replicate, Option, Some, None, option_map}
-use Rattle.bench_base.specs.declared.words.Kind.{Kind}
-use Rattle.bench_base.specs.declared.words.Kind.TheVariants.{Enrol, Reset, Audit, Refund, Withdraw}
+use Rattle.bench_base.specs.declared.{words.Kind.Kind, words.Kind.TheVariants.Enrol, words.Kind.TheVariants.Reset, words.Kind.TheVariants.Audit, words.Kind.TheVariants.Refund, words.Kind.TheVariants.Withdraw, words.Phase.Phase, words.Phase.TheVariants.Manufactured, words.Phase.TheVariants.Authorised, words.Phase.TheVariants.InService, words.Phase.TheVariants.Withdrawn}
 use Rattle.bench_base.specs.Kinds.{is_allowed}
-use Rattle.bench_base.specs.declared.words.Phase.{Phase}
-use Rattle.bench_base.specs.declared.words.Phase.TheVariants.{Manufactured, Authorised, InService, Withdrawn}
 use Rattle.hmac_core.specs.Hmac.{hmac}
 use Rattle.indicium.specs.declared.Mark.{Mark}
 use Rattle.indicium.specs.Marks as marks

@@ -8,11 +8,7 @@ use Rattle.std.proofs.lemmas.Option.{same_Some, none-some}
 use Rattle.bench_base.specs.Table.{Size, One, Four, Eight, number, row, values, Fit, IsBytes, room}
 use Rattle.bench_base.specs.Rules.{is_version, IsVersion}
 use Rattle.bench_base.proofs.Tables.{row_values, values_row, values_fit, length_row, joined, first_number, second_number, first_cell, second_cell}
-use Rattle.bench_base.specs.declared.words.Kind.{Kind}
-use Rattle.bench_base.specs.declared.words.Kind.TheVariants.{Enrol, Reset, Audit, Refund, Withdraw}
-use Rattle.bench_base.specs.declared.words.Verdict.{Verdict}
-use Rattle.bench_base.specs.declared.words.Verdict.TheVariants.{Granted, NotEnrolled, EnrolledAlready, NoCustomer, Suspended, NoFunds, Imbalance}
-use Rattle.bench_base.specs.declared.refusals.Unread.{Unread}
+use Rattle.bench_base.specs.declared.{words.Kind.Kind, words.Kind.TheVariants.Enrol, words.Kind.TheVariants.Reset, words.Kind.TheVariants.Audit, words.Kind.TheVariants.Refund, words.Kind.TheVariants.Withdraw, words.Verdict.Verdict, words.Verdict.TheVariants.Granted, words.Verdict.TheVariants.NotEnrolled, words.Verdict.TheVariants.EnrolledAlready, words.Verdict.TheVariants.NoCustomer, words.Verdict.TheVariants.Suspended, words.Verdict.TheVariants.NoFunds, words.Verdict.TheVariants.Imbalance, refusals.Unread.Unread}
 use Rattle.bench_base.specs.declared.refusals.Unread.TheVariants as unread
 use Rattle.bench_base.proofs.Facts.{read_sfits, ok_same, known, known_is}
 use Rattle.hmac_core.specs.Hmac.{hmac}
@@ -20,11 +16,7 @@ use Rattle.hmac_core.proofs.Codes.{length_hmac}
 use Rattle.indicium.specs.Marks.{read_mark}
 use Rattle.indicium.specs.declared.Mark.{Mark}
 use Rattle.indicium.proofs.Readings.{let_through, if_ok}
-use Rattle.psd_wire.specs.declared.message.Request.{Request}
-use Rattle.psd_wire.specs.declared.message.ReplyMsg.{ReplyMsg}
-use Rattle.psd_wire.specs.declared.message.DoneMsg.{DoneMsg}
-use Rattle.psd_wire.specs.declared.message.DebitMsg.{DebitMsg}
-use Rattle.psd_wire.specs.declared.message.Message.{Message}
+use Rattle.psd_wire.specs.declared.{message.Request.Request, message.ReplyMsg.ReplyMsg, message.DoneMsg.DoneMsg, message.DebitMsg.DebitMsg, message.Message.Message}
 use Rattle.psd_wire.specs.declared.message.Message.TheVariants as m
 use Rattle.psd_wire.specs.Grammar.{kind_code, kind_of, verdict_code, verdict_of, sum_size, request_table, request_values, reply_table, reply_values, done_table, done_values, debit_table, debit_values, body, spell, is_coded, IsDay, IsWhole, size_of, given, day_of, request_from, request_in, request_at, reply_from, reply_in, reply_at, done_from, done_at, debit_from, debit_at, release_at, if_mark, by_tag, read, HasCode, IsReading, IsCoded, coded_in}
 pub use Rattle.psd_wire.specs.Grammar.{ReadsAs, code_room}

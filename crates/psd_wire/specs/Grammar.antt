@@ -5,19 +5,11 @@ use Rattle.std.specs.Int.{w32, cast_unsigned, cast_signed}
 use Rattle.hmac_core.specs.Hmac.{hmac}
 use Rattle.bench_base.specs.Table.{Size, One, Two, Four, Eight, row, values, Fit}
 use Rattle.bench_base.specs.Rules.{is_version, IsVersion}
-use Rattle.bench_base.specs.declared.words.Kind.{Kind}
-use Rattle.bench_base.specs.declared.words.Kind.TheVariants.{Enrol, Reset, Audit, Refund, Withdraw}
-use Rattle.bench_base.specs.declared.words.Verdict.{Verdict}
-use Rattle.bench_base.specs.declared.words.Verdict.TheVariants.{Granted, NotEnrolled, EnrolledAlready, NoCustomer, Suspended, NoFunds, Imbalance}
-use Rattle.bench_base.specs.declared.refusals.Unread.{Unread}
+use Rattle.bench_base.specs.declared.{words.Kind.Kind, words.Kind.TheVariants.Enrol, words.Kind.TheVariants.Reset, words.Kind.TheVariants.Audit, words.Kind.TheVariants.Refund, words.Kind.TheVariants.Withdraw, words.Verdict.Verdict, words.Verdict.TheVariants.Granted, words.Verdict.TheVariants.NotEnrolled, words.Verdict.TheVariants.EnrolledAlready, words.Verdict.TheVariants.NoCustomer, words.Verdict.TheVariants.Suspended, words.Verdict.TheVariants.NoFunds, words.Verdict.TheVariants.Imbalance, refusals.Unread.Unread}
 use Rattle.bench_base.specs.declared.refusals.Unread.TheVariants as unread
 use Rattle.indicium.specs.Marks.{read_mark}
 use Rattle.indicium.specs.declared.Mark.{Mark}
-use Rattle.psd_wire.specs.declared.message.Request.{Request}
-use Rattle.psd_wire.specs.declared.message.ReplyMsg.{ReplyMsg}
-use Rattle.psd_wire.specs.declared.message.DoneMsg.{DoneMsg}
-use Rattle.psd_wire.specs.declared.message.DebitMsg.{DebitMsg}
-use Rattle.psd_wire.specs.declared.message.Message.{Message}
+use Rattle.psd_wire.specs.declared.{message.Request.Request, message.ReplyMsg.ReplyMsg, message.DoneMsg.DoneMsg, message.DebitMsg.DebitMsg, message.Message.Message}
 use Rattle.psd_wire.specs.declared.message.Message.TheVariants as m
 
 -- the number of a kind

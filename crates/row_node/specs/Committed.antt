@@ -1,7 +1,6 @@
 -- What a commit of a change leaves of a node of rows.
 use Rattle.std.specs.Prelude.{◌≡◌, Result, OnErr, IsErrOf, is_ok}
-use Rattle.bench_base.specs.declared.refusals.StoreFail.{StoreFail}
-use Rattle.bench_base.specs.declared.refusals.StoreFail.TheVariants.{Worn}
+use Rattle.bench_base.specs.declared.{refusals.StoreFail.StoreFail, refusals.StoreFail.TheVariants.Worn}
 use Rattle.nv_model.specs.declared.nv.Nv as nv
 use Rattle.node_storage.specs.Does.{Commits, Stores, Writes}
 use Rattle.node_storage.specs.Ends.{begins, end_of_commit, leaves_running}

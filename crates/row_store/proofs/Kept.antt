@@ -2,9 +2,7 @@
 use Rattle.std.proofs.Common.{subst, true≢false, ◌≡◌, ◌≢◌, ◌⊎◌, ◌↔◌, inl, inr, ℕ, ◌<◌, List, Option, Some, None, Result, Ok, Err, true, false, refl, sym, ◌∙◌, ap, arith, true≢false}
 use Rattle.std.specs.Prelude.{is_some, IsSome, IsErrOf, OnOk, OnErr}
 use Rattle.std.proofs.lemmas.Bool.{cases_eq}
-use Rattle.bench_base.specs.declared.refusals.StoreFail.{StoreFail}
-use Rattle.bench_base.specs.declared.refusals.StoreFail.TheVariants.{Worn}
-use Rattle.bench_base.specs.declared.sizes.TheConstants.{MOST_COMMITS}
+use Rattle.bench_base.specs.declared.{refusals.StoreFail.StoreFail, refusals.StoreFail.TheVariants.Worn, sizes.TheConstants.MOST_COMMITS}
 use Rattle.nv_store.specs.Slot.{Held}
 use Rattle.nv_model.specs.Moments.{Stays}
 use Rattle.nv_model.specs.declared.nv.Nv.{Ghosts}

@@ -1,18 +1,9 @@
 -- What the plan of each event records; and which plans accept a piece: those of scans, under the number of the scan.
 use Rattle.std.proofs.Common.{◌≡◌, ℕ, ℤ, pos, ◌+◌, Bool, true, false, List, [], ◌∷◌, Option, Some, None, Result, Ok, Err, inl, inr, refl, subst, length, drop}
 use Rattle.std.specs.Prelude.{is_some, nat_lt}
-use Rattle.bench_base.specs.declared.words.Node.{Node}
-use Rattle.bench_base.specs.declared.words.Node.TheVariants.{Device, Centre, Host, Verifier}
-use Rattle.bench_base.specs.declared.refusals.MarkFault.{MarkFault}
-use Rattle.bench_base.specs.declared.refusals.RateRefusal.{RateRefusal}
-use Rattle.bench_base.specs.declared.refusals.ScanRefusal.{ScanRefusal}
-use Rattle.bench_base.specs.declared.ledger.Commit.{Commit}
-use Rattle.bench_base.specs.declared.ledger.Commit.TheVariants.{Accepted}
-use Rattle.bench_base.specs.declared.ledger.Entry.{Entry}
+use Rattle.bench_base.specs.declared.{words.Node.Node, words.Node.TheVariants.Device, words.Node.TheVariants.Centre, words.Node.TheVariants.Host, words.Node.TheVariants.Verifier, refusals.MarkFault.MarkFault, refusals.RateRefusal.RateRefusal, refusals.ScanRefusal.ScanRefusal, ledger.Commit.Commit, ledger.Commit.TheVariants.Accepted, ledger.Entry.Entry, events.Event.Event, events.Reply.Reply}
 use Rattle.bench_base.specs.declared.ledger.Entry.TheVariants as e
-use Rattle.bench_base.specs.declared.events.Event.{Event}
 use Rattle.bench_base.specs.declared.events.Event.TheVariants as ev
-use Rattle.bench_base.specs.declared.events.Reply.{Reply}
 use Rattle.bench_base.specs.declared.events.Reply.TheVariants as r
 use Rattle.bench_base.specs.Rules.{todays_rules}
 use Rattle.bench_base.specs.Nodes.{node_of}
@@ -21,9 +12,7 @@ use Rattle.bench_base.specs.Events.{needs_day}
 use Rattle.bench_base.specs.Cells.{is_worn}
 use Rattle.bench_base.specs.Ledger.{Ledger, day_in, rates_in, messages, message, is_on, counted}
 use Rattle.bench_base.specs.Scans.{trusted}
-use Rattle.node_acts.specs.declared.act.Act.{Act}
-use Rattle.node_acts.specs.declared.act.Act.TheVariants.{Refuse, Tell, Commits}
-use Rattle.node_acts.specs.declared.said.Said.{Said}
+use Rattle.node_acts.specs.declared.{act.Act.Act, act.Act.TheVariants.Refuse, act.Act.TheVariants.Tell, act.Act.TheVariants.Commits, said.Said.Said}
 use Rattle.node_acts.specs.Plans.{IsOfNode}
 use Rattle.node_acts.specs.Said.{tells, saying, said_plan}
 use Rattle.indicium.specs.declared.Mark.{Mark}
@@ -44,8 +33,7 @@ use Rattle.centre_ledger.proofs.Own.{open_own, flag_own, deposit_own, left_own, 
 use Rattle.host_jobs.specs.Acts.{HostAct, LookUps, order_by, debit_message_by, begin_print_by, close_by, take_by}
 use Rattle.host_jobs.specs.Plans as host
 use Rattle.host_jobs.proofs.Own.{order_own, send_own, print_own, close_own, take_own}
-use Rattle.verifier.specs.declared.acts.Accepted.{Accepted as ScannedPiece}
-use Rattle.verifier.specs.declared.acts.Spot.{Spot}
+use Rattle.verifier.specs.declared.{acts.Accepted.Accepted as ScannedPiece, acts.Spot.Spot}
 use Rattle.verifier.specs.Acts.{ScanAct, trusted_act, answered_act, marked_act, read_act}
 use Rattle.verifier.specs.Plans as scans
 use Rattle.ledger_moves.specs.Devices as device

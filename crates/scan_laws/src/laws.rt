@@ -1,10 +1,8 @@
 //! The laws of scans, as the contract of a function that takes and answers nothing.
 ghost use Rattle.std.specs.Prelude.{◌≡◌, ◌⊎◌, ℕ, List, Bool, Some, Ok, Contains};
-ghost use Rattle.bench_base.specs.declared.events.Event.{Event};
+ghost use Rattle.bench_base.specs.declared.{events.Event.Event, events.Reply.Reply, ledger.Commit.TheVariants.Accepted};
 ghost use Rattle.bench_base.specs.declared.events.Event.TheVariants as ev;
-ghost use Rattle.bench_base.specs.declared.events.Reply.{Reply};
 ghost use Rattle.bench_base.specs.declared.events.Reply.TheVariants as r;
-ghost use Rattle.bench_base.specs.declared.ledger.Commit.TheVariants.{Accepted};
 ghost use Rattle.bench_base.specs.Ledger.{Ledger, IsReleased, counted};
 ghost use Rattle.bench_base.specs.Rules.{todays_rules};
 ghost use Rattle.bench_base.specs.Scans.{accepted};

@@ -1,10 +1,8 @@
 -- Words that fit the form after a keyword are those of an event; words that fit the first places of no form begin none.
 use Rattle.std.proofs.Common.{◌≡◌, ℕ, true, false, ◌⊎◌, List, [], ◌∷◌, refl, inl, inr, codes, ◌++◌, decimal}
-use Rattle.bench_base.specs.declared.words.Kind.TheVariants.{Enrol, Reset, Audit, Refund, Withdraw}
-use Rattle.bench_base.specs.declared.events.Event.{Event}
+use Rattle.bench_base.specs.declared.{words.Kind.TheVariants.Enrol, words.Kind.TheVariants.Reset, words.Kind.TheVariants.Audit, words.Kind.TheVariants.Refund, words.Kind.TheVariants.Withdraw, events.Event.Event, words.Kind.Kind}
 use Rattle.bench_base.specs.Ranges.{IsAsk, IsDevice}
 use Rattle.bench_base.specs.Events.{IsWholeEvent}
-use Rattle.bench_base.specs.declared.words.Kind.{Kind}
 use Rattle.bench_base.specs.declared.events.Event.TheVariants as ev
 use Rattle.script_text.specs.Grammar.{AreWordsOf, ask_words}
 use Rattle.script_text.specs.Keywords.{keyword_word}

@@ -10,12 +10,7 @@ use Rattle.script_text.specs.Grammar.{IsSkipped, Spells}
 use Rattle.script_words.specs.Words.{words_in}
 use Rattle.script_check.specs.Texts.{line_text}
 use Rattle.script_check.specs.Wrong.{IsFirstWrong, IsWordAt, IsBehindAll}
-use Rattle.script_check.specs.declared.fault.Fault.{Fault}
-use Rattle.script_check.specs.declared.fault.Fault.TheVariants.{Word, Long, NoEnd, BehindEnd, NoLineEnd, TooLong}
-use Rattle.script_check.specs.declared.fault.WordFault.{WordFault}
-use Rattle.script_check.specs.declared.script.CheckFail.{CheckFail}
-use Rattle.script_check.specs.declared.script.CheckFail.TheVariants.{Read, Write}
-use Rattle.script_check.specs.declared.script.Checked.{Checked}
+use Rattle.script_check.specs.declared.{fault.Fault.Fault, fault.Fault.TheVariants.Word, fault.Fault.TheVariants.Long, fault.Fault.TheVariants.NoEnd, fault.Fault.TheVariants.BehindEnd, fault.Fault.TheVariants.NoLineEnd, fault.Fault.TheVariants.TooLong, fault.WordFault.WordFault, script.CheckFail.CheckFail, script.CheckFail.TheVariants.Read, script.CheckFail.TheVariants.Write, script.Checked.Checked}
 
 -- a fault, and the number of its line
 pub record Report : Type 0 where

@@ -5,9 +5,7 @@ ghost use Rattle.bench_base.specs.Causes.{Rose};
 ghost use Rattle.script_check.specs.Checks.{Checks, FailsSo};
 ghost use Rattle.script_check.specs.Texts.{line_text};
 ghost use Rattle.script_check.specs.Turns.{LineSteps, LooksAt, LooksBehind, LooksOver, Steps};
-ghost use Rattle.script_check.specs.declared.fault.Fault.{Fault};
-ghost use Rattle.script_check.specs.declared.script.CheckFail.{CheckFail};
-ghost use Rattle.script_check.specs.declared.script.Step.{Step};
+ghost use Rattle.script_check.specs.declared.{fault.Fault.Fault, script.CheckFail.CheckFail, script.Step.Step};
 
 use crate::fault::Fault;
 use crate::line::check_line;

@@ -3,11 +3,8 @@ use Rattle.std.proofs.Common.{◌≡◌, ◌⊎◌, inl, inr, ℕ, ◌+◌, ◌-
 use Rattle.std.specs.Prelude.{IsSome, IsNone, slice_get}
 use Rattle.std.proofs.lemmas.Option.{slice_get-get_or, slice_get_within}
 use Rattle.bench_base.specs.Causes.{Rose}
-use Rattle.bench_base.specs.declared.events.Event.{Event}
-use Rattle.bench_base.specs.declared.events.Reply.{Reply}
+use Rattle.bench_base.specs.declared.{events.Event.Event, events.Reply.Reply, words.Node.Node, words.Node.TheVariants.Device, words.Node.TheVariants.Centre, words.Node.TheVariants.Host, words.Node.TheVariants.Verifier}
 use Rattle.bench_base.specs.declared.events.Reply.TheVariants as r
-use Rattle.bench_base.specs.declared.words.Node.{Node}
-use Rattle.bench_base.specs.declared.words.Node.TheVariants.{Device, Centre, Host, Verifier}
 use Rattle.bench_base.specs.Events.{calls_of}
 use Rattle.bench_base.specs.Replies.{tells_power, tells_fault, tells_cut, MayGet, tells_printer, tells_rates}
 use Rattle.nv_model.specs.Meters.{Meters, Uses}
@@ -26,8 +23,7 @@ use Rattle.script_replay.specs.Counts.{BalancedAt, AreBalanced, FaultsTold}
 use Rattle.line_extensions.specs.Trace.{StepRecord}
 use Rattle.script_replay.specs.Run.{Leaves}
 use Rattle.line_runs.specs.declared.status.Status.TheVariants as status
-use Rattle.line_runs.specs.declared.status.SideStatus.{SideStatus}
-use Rattle.line_runs.specs.declared.status.SideStatus.TheVariants.{Run, Stopped}
+use Rattle.line_runs.specs.declared.{status.SideStatus.SideStatus, status.SideStatus.TheVariants.Run, status.SideStatus.TheVariants.Stopped}
 use Rattle.script_replay.proofs.Faults.{none_told, more_told, told_still, printer_told, rates_told}
 
 -- == one event ==

@@ -4,12 +4,9 @@ use Rattle.std.specs.List.{AllByRecursion}
 use Rattle.std.specs.Prelude.{slice_get}
 use Rattle.std.specs.Io.KnownBytes.{Appends}
 use Rattle.std.proofs.lemmas.List.{length-append, length-map}
-use Rattle.bench_base.specs.declared.events.Event.{Event}
+use Rattle.bench_base.specs.declared.{events.Event.Event, events.Reply.Reply, questions.Brought.Brought, questions.Brought.TheVariants.Nothing, questions.Brought.TheVariants.Handed, questions.Brought.TheVariants.Scanned}
 use Rattle.bench_base.specs.declared.events.Event.TheVariants as ev
-use Rattle.bench_base.specs.declared.events.Reply.{Reply}
 use Rattle.bench_base.specs.declared.events.Reply.TheVariants as r
-use Rattle.bench_base.specs.declared.questions.Brought.{Brought}
-use Rattle.bench_base.specs.declared.questions.Brought.TheVariants.{Nothing, Handed, Scanned}
 use Rattle.bench_base.specs.Ledger.{Ledger}
 use Rattle.bench_base.specs.Replies.{MayGet}
 use Rattle.node_turns.specs.Printing.{Printer}
@@ -30,10 +27,8 @@ use Rattle.script_replay.specs.Trace.{ledger_by, AreUnforged}
 use Rattle.script_replay.specs.Generated.{events_of, replies_of, summary_line, EndsWith, InTheMidst, Generated}
 use Rattle.script_replay.specs.Run.{Unforged}
 use Rattle.line_runs.specs.Turns.{AreDone, Ended}
-use Rattle.line_runs.specs.declared.status.Status.{Status}
+use Rattle.line_runs.specs.declared.{status.Status.Status, status.SideStatus.SideStatus, status.SideStatus.TheVariants.Run}
 use Rattle.line_runs.specs.declared.status.Status.TheVariants as status
-use Rattle.line_runs.specs.declared.status.SideStatus.{SideStatus}
-use Rattle.line_runs.specs.declared.status.SideStatus.TheVariants.{Run}
 use Rattle.script_replay.proofs.Faults.{given_as}
 
 -- == one event more ==

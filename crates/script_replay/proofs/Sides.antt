@@ -11,8 +11,7 @@ use Rattle.line_runs.specs.Trace.{Lines}
 use Rattle.line_runs.specs.Runs.{Replayed}
 use Rattle.line_runs.specs.Turns.{Ended}
 use Rattle.line_runs.specs.declared.status.Status.TheVariants as status
-use Rattle.line_runs.specs.declared.status.SideStatus.{SideStatus}
-use Rattle.line_runs.specs.declared.status.SideStatus.TheVariants.{Run}
+use Rattle.line_runs.specs.declared.{status.SideStatus.SideStatus, status.SideStatus.TheVariants.Run}
 use Rattle.line_extensions.specs.Desks.{World, world, SideLeaves, Does}
 use Rattle.line_extensions.specs.DeskLaws.{bench_part}
 use Rattle.line_extensions.specs.SideTrace.{SideStep, steps_of}

@@ -11,9 +11,7 @@ use Rattle.line_extensions.specs.Trace.{StepRecord, done_in}
 use Rattle.line_extensions.specs.Scripts.{script_grammar, script_lines}
 use Rattle.line_runs.specs.Ends.{EndsAs, IsByScript}
 use Rattle.line_runs.specs.Runs.{Replayed}
-use Rattle.line_runs.specs.declared.status.Status.{Status}
-use Rattle.line_runs.specs.declared.status.Status.TheVariants.{ReadFault, WriteFault}
-use Rattle.line_runs.specs.declared.status.SideStatus.TheVariants.{Run}
+use Rattle.line_runs.specs.declared.{status.Status.Status, status.Status.TheVariants.ReadFault, status.Status.TheVariants.WriteFault, status.SideStatus.TheVariants.Run}
 use Rattle.script_replay.specs.Trace.{ledger_after, printed_of, RunWhile, AreUnforged}
 use Rattle.script_replay.specs.Run.{Unforged, Moves, Prints}
 use Rattle.script_replay.specs.Streams.{Streams}

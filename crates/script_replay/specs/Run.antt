@@ -1,10 +1,9 @@
 -- A run over a script: what it means to do its steps.
 use Rattle.std.specs.Prelude.{◌≡◌, List, [], ◌∷◌, None, IsSome}
 use Rattle.std.specs.Io.KnownBytes.{Consumes, Appends}
-use Rattle.bench_base.specs.declared.ledger.Entry.TheVariants.{Begin}
+use Rattle.bench_base.specs.declared.{ledger.Entry.TheVariants.Begin, events.Event.Event}
 use Rattle.bench_base.specs.Ledger.{Ledger}
 use Rattle.bench_base.specs.Rules.{todays_rules}
-use Rattle.bench_base.specs.declared.events.Event.{Event}
 use Rattle.bench_base.specs.declared.events.Event.TheVariants as ev
 use Rattle.node_turns.specs.Printing.{print_of}
 use Rattle.ledger_terms.specs.Sane.{IsSane}
@@ -24,10 +23,8 @@ use Rattle.script_replay.specs.Trace.{rates_of, printed_of, ledger_after, RunWhi
 use Rattle.script_replay.specs.Marks.{IsPrinted}
 use Rattle.script_replay.specs.Throughout.{IsAllPaid, StandsFor, Throughout}
 use Rattle.script_replay.specs.Undisturbed.{IsAnswer, IsTheAnswer, NoneOpen, AreUndisturbed}
-use Rattle.line_runs.specs.declared.status.Status.{Status}
+use Rattle.line_runs.specs.declared.{status.Status.Status, status.SideStatus.SideStatus, status.SideStatus.TheVariants.Run, status.SideStatus.TheVariants.Stopped}
 use Rattle.line_runs.specs.declared.status.Status.TheVariants as status
-use Rattle.line_runs.specs.declared.status.SideStatus.{SideStatus}
-use Rattle.line_runs.specs.declared.status.SideStatus.TheVariants.{Run, Stopped}
 
 -- == what it means to do the steps ==
 

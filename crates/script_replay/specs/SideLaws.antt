@@ -7,10 +7,8 @@ use Rattle.node_turns.specs.declared.turn.Turn.{Turn}
 use Rattle.bench_abstraction.specs.Routing.{as_given}
 use Rattle.bench.specs.Benches.{Bench, Nodes}
 use Rattle.bench.proofs.Notes.{scan_names}
-use Rattle.line_runs.specs.declared.status.Status.{Status}
+use Rattle.line_runs.specs.declared.{status.Status.Status, status.SideStatus.SideStatus, status.SideStatus.TheVariants.Run, status.SideStatus.TheVariants.Stopped}
 use Rattle.line_runs.specs.declared.status.Status.TheVariants as status
-use Rattle.line_runs.specs.declared.status.SideStatus.{SideStatus}
-use Rattle.line_runs.specs.declared.status.SideStatus.TheVariants.{Run, Stopped}
 use Rattle.line_extensions.specs.Trace.{StepRecord}
 use Rattle.line_extensions.specs.Desks.{World, SideLeaves}
 use Rattle.line_extensions.specs.DeskLaws.{IsChain}

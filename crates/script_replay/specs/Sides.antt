@@ -5,10 +5,8 @@ use Rattle.node_turns.specs.declared.turn.Turn.{Turn}
 use Rattle.bench.specs.Benches.{Nodes, BenchOf}
 use Rattle.line_runs.specs.Ends.{EndsAs, IsByScript, IsComplete}
 use Rattle.line_runs.specs.Runs.{Replayed}
-use Rattle.line_runs.specs.declared.status.Status.{Status}
+use Rattle.line_runs.specs.declared.{status.Status.Status, status.SideStatus.SideStatus, status.SideStatus.TheVariants.Run, status.SideStatus.TheVariants.Stopped}
 use Rattle.line_runs.specs.declared.status.Status.TheVariants as status
-use Rattle.line_runs.specs.declared.status.SideStatus.{SideStatus}
-use Rattle.line_runs.specs.declared.status.SideStatus.TheVariants.{Run, Stopped}
 use Rattle.line_extensions.specs.Trace.{StepRecord}
 use Rattle.line_extensions.specs.Desks.{World, world, SideLeaves, side_grammar, side_lines, Does}
 use Rattle.line_extensions.specs.SideTrace.{SideStep, steps_of}

@@ -4,17 +4,15 @@ use Rattle.bench_base.specs.Causes.{Rose}
 use Rattle.bench_base.specs.declared.stream.Source as source
 use Rattle.bench_base.specs.declared.stream.Sink as sink
 use Rattle.bench.specs.Outside.{Outside, outside}
-use Rattle.script_text.specs.declared.program.Words.{Words}
-use Rattle.script_text.specs.declared.program.Words.TheVariants.{Replay, Generate}
+use Rattle.script_text.specs.declared.{program.Words.Words, program.Words.TheVariants.Replay, program.Words.TheVariants.Generate}
 use Rattle.script_text.specs.Programs.{program_words, AreInRange}
 use Rattle.line_extensions.specs.Trace.{StepRecord, done_in}
 use Rattle.line_runs.specs.Ends.{EndsAs, IsByScript, IsComplete}
 use Rattle.line_runs.specs.Runs.{Replayed}
 use Rattle.script_replay.specs.Generated.{Generated}
 use Rattle.line_extensions.specs.Scripts.{script_grammar, script_lines}
-use Rattle.line_runs.specs.declared.status.Status.{Status}
+use Rattle.line_runs.specs.declared.{status.Status.Status, status.SideStatus.TheVariants.Run}
 use Rattle.line_runs.specs.declared.status.Status.TheVariants as status
-use Rattle.line_runs.specs.declared.status.SideStatus.TheVariants.{Run}
 
 -- the bytes that are left of the script and that the report took, if they are known, and the faults of each; the rates and the printer
 pub record Streams : Type 0 where

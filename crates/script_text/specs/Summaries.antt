@@ -1,12 +1,10 @@
 -- The summary of a generated run: how many replies of each kind it had.
 use Rattle.std.specs.Prelude.{ℕ, ◌+◌, ◌≤◌, List, [], ◌∷◌, Bool, true, false, codes, decimal}
-use Rattle.bench_base.specs.declared.events.Reply.{Reply}
-use Rattle.bench_base.specs.declared.questions.Report.{Report}
+use Rattle.bench_base.specs.declared.{events.Reply.Reply, questions.Report.Report}
 use Rattle.bench_base.specs.declared.questions.Report.TheVariants as report
 use Rattle.bench_base.specs.Replies.{report_of}
 use Rattle.script_words.specs.Words.{joined}
-use Rattle.script_text.specs.declared.column.Column.{Column}
-use Rattle.script_text.specs.declared.column.Column.TheVariants.{Refused, Power, Fault, Released, Accepted, Uncounted}
+use Rattle.script_text.specs.declared.{column.Column.Column, column.Column.TheVariants.Refused, column.Column.TheVariants.Power, column.Column.TheVariants.Fault, column.Column.TheVariants.Released, column.Column.TheVariants.Accepted, column.Column.TheVariants.Uncounted}
 
 -- an acceptance counts where it is new
 abbrev pub accepted_as : Bool → Column

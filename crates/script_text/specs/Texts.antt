@@ -2,17 +2,10 @@
 use Rattle.std.specs.Prelude.{◌≡◌, ℕ, ◌<◌, ◌^◌, List, ◌∷◌, [], length, Bool, true, false, Option, Some, None, codes, decimal, FitsSigned}
 use Rattle.std.specs.Int.{w32}
 use Rattle.std.specs.Fmt.{signed_decimal}
-use Rattle.bench_base.specs.declared.words.Kind.{Kind}
-use Rattle.bench_base.specs.declared.words.Verdict.{Verdict}
-use Rattle.bench_base.specs.declared.words.Verdict.TheVariants.{Granted, NotEnrolled, EnrolledAlready, NoCustomer, Suspended, NoFunds, Imbalance}
-use Rattle.bench_base.specs.declared.refusals.ScanRefusal.{ScanRefusal}
+use Rattle.bench_base.specs.declared.{words.Kind.Kind, words.Verdict.Verdict, words.Verdict.TheVariants.Granted, words.Verdict.TheVariants.NotEnrolled, words.Verdict.TheVariants.EnrolledAlready, words.Verdict.TheVariants.NoCustomer, words.Verdict.TheVariants.Suspended, words.Verdict.TheVariants.NoFunds, words.Verdict.TheVariants.Imbalance, refusals.ScanRefusal.ScanRefusal, refusals.MarkFault.MarkFault, events.Reply.Reply, questions.Refusal.TheVariants.Verifier as OfVerifier, questions.Report.Report}
 use Rattle.bench_base.specs.declared.refusals.ScanRefusal.TheVariants as scan
-use Rattle.bench_base.specs.declared.refusals.MarkFault.{MarkFault}
 use Rattle.bench_base.specs.declared.refusals.MarkFault.TheVariants as fault
-use Rattle.bench_base.specs.declared.events.Reply.{Reply}
 use Rattle.bench_base.specs.declared.events.Reply.TheVariants as reply
-use Rattle.bench_base.specs.declared.questions.Refusal.TheVariants.{Verifier as OfVerifier}
-use Rattle.bench_base.specs.declared.questions.Report.{Report}
 use Rattle.bench_base.specs.declared.questions.Report.TheVariants as report
 use Rattle.bench_base.specs.Ranges.{IsDevice, IsCustomer, IsNode, IsWord, IsDay}
 use Rattle.bench_base.specs.Replies.{report_of}

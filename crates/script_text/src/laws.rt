@@ -1,7 +1,6 @@
 //! Laws of the lines: each is the contract of a call that does nothing.
 ghost use Rattle.std.specs.Prelude.{◌≡◌, ◌≢◌, ℕ, List, All};
-ghost use Rattle.bench_base.specs.declared.events.Event.{Event};
-ghost use Rattle.bench_base.specs.declared.events.Reply.{Reply};
+ghost use Rattle.bench_base.specs.declared.{events.Event.Event, events.Reply.Reply};
 ghost use Rattle.bench_base.specs.Events.{IsWholeEvent};
 ghost use Rattle.script_text.specs.Texts.{text_of, IsWholeReply, told};
 ghost use Rattle.script_text.specs.Grammar.{Spells, IsSkipped};

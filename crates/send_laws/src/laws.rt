@@ -1,11 +1,8 @@
 //! The laws of orders and of open jobs, each as the contract of a function that takes and answers nothing.
 ghost use Rattle.std.specs.Prelude.{◌≡◌, ℕ, List, [], Some, Contains};
-ghost use Rattle.bench_base.specs.declared.events.Event.{Event};
+ghost use Rattle.bench_base.specs.declared.{events.Event.Event, events.Reply.Reply, ledger.Commit.Commit, ledger.Commit.TheVariants.Ordered};
 ghost use Rattle.bench_base.specs.declared.events.Event.TheVariants as ev;
-ghost use Rattle.bench_base.specs.declared.events.Reply.{Reply};
 ghost use Rattle.bench_base.specs.declared.events.Reply.TheVariants as r;
-ghost use Rattle.bench_base.specs.declared.ledger.Commit.{Commit};
-ghost use Rattle.bench_base.specs.declared.ledger.Commit.TheVariants.{Ordered};
 ghost use Rattle.bench_base.specs.Ledger.{Ledger, counted};
 ghost use Rattle.bench_base.specs.Rules.{todays_rules};
 ghost use Rattle.node_acts.specs.Plans.{after};

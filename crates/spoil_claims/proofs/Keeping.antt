@@ -15,8 +15,7 @@ use Rattle.row_store.proofs.Kept.{row_read, some_held}
 use Rattle.spoil_claims.specs.Claims.{Claims, claim_at, kept, HasNoGaps, one_in, last_claim, credit_of, credits}
 use Rattle.spoil_claims.specs.Payload.{decoded, IsFit}
 use Rattle.spoil_claims.specs.Waits.{IsStored}
-use Rattle.spoil_claims.specs.declared.claim.ClaimRow.{ClaimRow}
-use Rattle.spoil_claims.specs.declared.claim.TheConstants.{CLAIM_CELLS}
+use Rattle.spoil_claims.specs.declared.{claim.ClaimRow.ClaimRow, claim.TheConstants.CLAIM_CELLS}
 use Rattle.spoil_claims.proofs.Payloads.{decoded_fits}
 
 -- == what is read ==

@@ -14,8 +14,7 @@ use Rattle.script_text.proofs.EachEvent.{words_spelled, one_event_of}
 use Rattle.script_text.proofs.ReadBack.{given_in, given_again, given_is}
 use Rattle.line_extensions.specs.Events.{IsLineOf}
 use Rattle.spoil_claims.specs.ClaimLines.{IsClaim, IsClaimLine, IsScan}
-use Rattle.spoil_claims.specs.declared.claim.ClaimLine.{ClaimLine}
-use Rattle.spoil_claims.specs.declared.claim.ClaimLine.TheVariants.{Claim, Credits, Reserved}
+use Rattle.spoil_claims.specs.declared.{claim.ClaimLine.ClaimLine, claim.ClaimLine.TheVariants.Claim, claim.ClaimLine.TheVariants.Credits, claim.ClaimLine.TheVariants.Reserved}
 
 -- == a claim's words ==
 

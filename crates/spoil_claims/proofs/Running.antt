@@ -14,8 +14,7 @@ use Rattle.ledger_terms.specs.Editions.{Editions}
 use Rattle.bench.specs.Benches.{Nodes, Stands}
 use Rattle.line_runs.specs.Trace.{Lines, Reads}
 use Rattle.line_runs.specs.declared.status.Status.TheVariants as status
-use Rattle.line_runs.specs.declared.status.SideStatus.{SideStatus}
-use Rattle.line_runs.specs.declared.status.SideStatus.TheVariants.{Run}
+use Rattle.line_runs.specs.declared.{status.SideStatus.SideStatus, status.SideStatus.TheVariants.Run}
 use Rattle.line_extensions.specs.Desks.{World, world, side_lines}
 use Rattle.line_extensions.specs.SideTrace.{SideStep, steps_of}
 use Rattle.script_replay.specs.Chains.{SceneOf, scene}
@@ -32,9 +31,7 @@ use Rattle.line_extensions.specs.Stops.{HasBroken}
 use Rattle.line_extensions.proofs.Lines.{AtLast}
 use Rattle.spoil_claims.specs.Storage.{with_torn, LeavesStorage}
 use Rattle.spoil_claims.specs.View.{has_failed, rows_of}
-use Rattle.spoil_claims.specs.declared.claim.ClaimLine.{ClaimLine}
-use Rattle.spoil_claims.specs.declared.claim.ClaimRow.{ClaimRow}
-use Rattle.spoil_claims.specs.declared.desk.Desk.{Desk}
+use Rattle.spoil_claims.specs.declared.{claim.ClaimLine.ClaimLine, claim.ClaimRow.ClaimRow, desk.Desk.Desk}
 use Rattle.spoil_claims.proofs.Answering.{all_answered}
 use Rattle.spoil_claims.proofs.Backing.{backed_after, torn_backed}
 use Rattle.spoil_claims.proofs.Following.{follow_all}

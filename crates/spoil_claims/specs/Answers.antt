@@ -11,9 +11,7 @@ use Rattle.spoil_claims.specs.ClaimLines.{IsClaimLine}
 use Rattle.spoil_claims.specs.Claims.{Claims, IsHere, kept, scan_number, last_claim, mark_of, credits}
 use Rattle.spoil_claims.specs.Courses.{Either, IsSame, row_for, as_credited}
 use Rattle.spoil_claims.specs.Texts.{credited_text, credits_text, wrong_claim_text}
-use Rattle.spoil_claims.specs.declared.claim.ClaimRow.{ClaimRow}
-use Rattle.spoil_claims.specs.declared.claim.ClaimLine.{ClaimLine}
-use Rattle.spoil_claims.specs.declared.claim.ClaimLine.TheVariants.{Claim, Credits, Reserved}
+use Rattle.spoil_claims.specs.declared.{claim.ClaimRow.ClaimRow, claim.ClaimLine.ClaimLine, claim.ClaimLine.TheVariants.Claim, claim.ClaimLine.TheVariants.Credits, claim.ClaimLine.TheVariants.Reserved}
 
 -- it was answered so, and nothing was done
 pub record IsTold (answer : List ℕ) (rows : Claims) (steps : List StepRecord) (texts : List (List ℕ)) (after : Claims) : Type 0 where

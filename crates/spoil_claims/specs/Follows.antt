@@ -10,8 +10,7 @@ use Rattle.spoil_claims.specs.Answers.{AreAnswered}
 use Rattle.spoil_claims.specs.Claims.{Claims}
 use Rattle.spoil_claims.specs.Holds.{ClaimsHold, debited_credits}
 use Rattle.spoil_claims.specs.Texts.{credits_text}
-use Rattle.spoil_claims.specs.declared.claim.ClaimLine.{ClaimLine}
-use Rattle.spoil_claims.specs.declared.claim.ClaimLine.TheVariants.{Claim, Credits, Reserved}
+use Rattle.spoil_claims.specs.declared.{claim.ClaimLine.ClaimLine, claim.ClaimLine.TheVariants.Claim, claim.ClaimLine.TheVariants.Credits, claim.ClaimLine.TheVariants.Reserved}
 
 -- `credits` is answered by the postage that was debited for the customer's credited claims
 abbrev pub TellsDebits : ClaimLine → Claims → Ledger → List (List ℕ) → Type 0

@@ -18,8 +18,7 @@ use Rattle.spoil_claims.specs.Holds.{ClaimsHold}
 use Rattle.spoil_claims.specs.Ran.{DidClaims}
 use Rattle.spoil_claims.specs.Storage.{with_torn}
 use Rattle.spoil_claims.specs.View.{rows_of, has_failed}
-use Rattle.spoil_claims.specs.declared.claim.ClaimLine.{ClaimLine}
-use Rattle.spoil_claims.specs.declared.desk.Desk.{Desk}
+use Rattle.spoil_claims.specs.declared.{claim.ClaimLine.ClaimLine, desk.Desk.Desk}
 
 -- the desk keeps no claim
 abbrev pub KeepsNone : {N : Type 0} {own : nv.Ghosts N} → Desk N own → Type 0

@@ -1,7 +1,6 @@
 -- What is promised of claims, by a ledger.
 use Rattle.std.specs.Prelude.{◌≡◌, ◌<◌, ◌≤◌, ℕ, List, Option, Some, None, true, ◌==◌, ◌&&◌, if◌then◌else◌, sum_by, unwrap_or, Contains}
-use Rattle.bench_base.specs.declared.ledger.Commit.{Commit}
-use Rattle.bench_base.specs.declared.ledger.Commit.TheVariants.{Accepted}
+use Rattle.bench_base.specs.declared.{ledger.Commit.Commit, ledger.Commit.TheVariants.Accepted}
 use Rattle.bench_base.specs.Ledger.{Ledger, IsReleased, counted}
 use Rattle.bench_base.specs.Scans.{accepted}
 use Rattle.indicium.specs.declared.Mark.{Mark}

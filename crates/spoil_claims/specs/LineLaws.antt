@@ -9,8 +9,7 @@ use Rattle.script_text.proofs.EachEvent.{one_event_of, no_event_skipped}
 use Rattle.line_extensions.specs.Events.{IsLineOf}
 use Rattle.line_extensions.specs.Wants.{IsAlone}
 use Rattle.spoil_claims.specs.ClaimLines.{IsClaimLine}
-use Rattle.spoil_claims.specs.declared.claim.ClaimLine.{ClaimLine}
-use Rattle.spoil_claims.specs.declared.claim.ClaimLine.TheVariants.{Claim, Credits, Reserved}
+use Rattle.spoil_claims.specs.declared.{claim.ClaimLine.ClaimLine, claim.ClaimLine.TheVariants.Claim, claim.ClaimLine.TheVariants.Credits, claim.ClaimLine.TheVariants.Reserved}
 use Rattle.script_words.proofs.Splits.{begins_with}
 
 -- a line that is that of another event than `end`

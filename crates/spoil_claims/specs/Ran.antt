@@ -21,9 +21,7 @@ use Rattle.spoil_claims.specs.Follows.{FollowLedger}
 use Rattle.spoil_claims.specs.Holds.{AreBacked, ClaimsHold}
 use Rattle.spoil_claims.specs.Storage.{LeavesStorage, ShownMeanwhile, with_torn}
 use Rattle.spoil_claims.specs.View.{rows_of}
-use Rattle.spoil_claims.specs.declared.claim.ClaimLine.{ClaimLine}
-use Rattle.spoil_claims.specs.declared.claim.ClaimRow.{ClaimRow}
-use Rattle.spoil_claims.specs.declared.desk.Desk.{Desk}
+use Rattle.spoil_claims.specs.declared.{claim.ClaimLine.ClaimLine, claim.ClaimRow.ClaimRow, desk.Desk.Desk}
 
 -- The desk and the bench did the steps, and each line about claims has its answer, by the claims that were kept then and by the reply to its scan. A
 -- commit may be in doubt: a later boot then finds the claims without it or with it. At every crash point of the run the possible contents show the

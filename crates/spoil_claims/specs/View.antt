@@ -8,8 +8,7 @@ use Rattle.line_extensions.specs.Stops.{DeskView}
 use Rattle.row_store.specs.Seen.{seen_in}
 use Rattle.spoil_claims.specs.Claims.{Claims}
 use Rattle.spoil_claims.specs.Payload.{decoded}
-use Rattle.spoil_claims.specs.declared.desk.Desk.{Desk}
-use Rattle.spoil_claims.specs.declared.answer.Answer.{Answer}
+use Rattle.spoil_claims.specs.declared.{desk.Desk.Desk, answer.Answer.Answer}
 
 module _ {N : Type 0} {g : Ghosts N} where
   -- its storage

@@ -3,9 +3,7 @@ use Rattle.std.specs.Prelude.{◌≡◌, ◌-◌, ◌≤◌, IsSome, Some}
 use Rattle.std.proofs.Props.{props}
 use Rattle.spoil_claims.specs.Claims.{Claims, kept}
 use Rattle.spoil_claims.specs.Payload.{IsFit}
-use Rattle.spoil_claims.specs.declared.claim.ClaimRow.{ClaimRow}
-use Rattle.spoil_claims.specs.declared.claim.TheConstants.{CLAIM_CELLS}
-use Rattle.spoil_claims.specs.declared.answer.Answer.{Answer}
+use Rattle.spoil_claims.specs.declared.{claim.ClaimRow.ClaimRow, claim.TheConstants.CLAIM_CELLS, answer.Answer.Answer}
 use Rattle.spoil_claims.specs.declared.answer.Answer.TheVariants as answers
 
 -- the claim is kept, in its cell

@@ -11,10 +11,7 @@ use Rattle.script_words.proofs.Splits.{ArePrinted, AreSolid-printed, Printed, jo
 use Rattle.script_words.proofs.Numbers.{own, Printed-decimal}
 use Rattle.statement_check.proofs.Numbers.{short_digits}
 use Rattle.statement_check.specs.Lines.{IsMills, IsCauseInRange, IsInRange, cause_words, line_words, line_text, IsLineOf}
-use Rattle.statement_check.specs.declared.line.Cause.{Cause}
-use Rattle.statement_check.specs.declared.line.Cause.TheVariants.{Deposit, Reset, Refund, Withdraw}
-use Rattle.statement_check.specs.declared.line.StatementLine.{StatementLine}
-use Rattle.statement_check.specs.declared.line.StatementLine.TheVariants.{Opening, Moved, Closing}
+use Rattle.statement_check.specs.declared.{line.Cause.Cause, line.Cause.TheVariants.Deposit, line.Cause.TheVariants.Reset, line.Cause.TheVariants.Refund, line.Cause.TheVariants.Withdraw, line.StatementLine.StatementLine, line.StatementLine.TheVariants.Opening, line.StatementLine.TheVariants.Moved, line.StatementLine.TheVariants.Closing}
 
 -- ---- a line has its words
 

@@ -7,11 +7,7 @@ use Rattle.statement_check.specs.Lines.{IsMills, IsInRange, line_text}
 use Rattle.statement_check.specs.Places.{IsRight, AreRight, place_after}
 use Rattle.statement_check.specs.Statements.{Follow, IsStatement}
 use Rattle.statement_check.specs.Verdicts.{HasVerdict}
-use Rattle.statement_check.specs.declared.line.Movement.{Movement}
-use Rattle.statement_check.specs.declared.line.StatementLine.{StatementLine}
-use Rattle.statement_check.specs.declared.line.StatementLine.TheVariants.{Opening, Moved, Closing}
-use Rattle.statement_check.specs.declared.place.Place.TheVariants.{First, Behind, Closed}
-use Rattle.statement_check.specs.declared.verdict.Verdict.TheVariants.{Good}
+use Rattle.statement_check.specs.declared.{line.Movement.Movement, line.StatementLine.StatementLine, line.StatementLine.TheVariants.Opening, line.StatementLine.TheVariants.Moved, line.StatementLine.TheVariants.Closing, place.Place.TheVariants.First, place.Place.TheVariants.Behind, place.Place.TheVariants.Closed, verdict.Verdict.TheVariants.Good}
 
 pos_same : (a b : ℕ) → pos a ≡ pos b → a ≡ b
 pos_same a b is = cc

@@ -8,11 +8,7 @@ use Rattle.statement_check.specs.Lines.{IsInRange, line_text}
 use Rattle.statement_check.specs.Places.{balance, due, IsRight, AreRight, place_behind, place_after}
 use Rattle.statement_check.specs.Runs.{script_of, TakesLast, TakesUnended, Takes}
 use Rattle.statement_check.specs.Verdicts.{IsOpen, HasNoPlace, IsWrong, Decides, HasVerdict}
-use Rattle.statement_check.specs.declared.line.StatementLine.{StatementLine}
-use Rattle.statement_check.specs.declared.place.Place.{Place}
-use Rattle.statement_check.specs.declared.place.Place.TheVariants.{First, Closed}
-use Rattle.statement_check.specs.declared.verdict.Verdict.{Verdict}
-use Rattle.statement_check.specs.declared.verdict.Verdict.TheVariants.{Good, Wrong, Bad, TooLong}
+use Rattle.statement_check.specs.declared.{line.StatementLine.StatementLine, place.Place.Place, place.Place.TheVariants.First, place.Place.TheVariants.Closed, verdict.Verdict.Verdict, verdict.Verdict.TheVariants.Good, verdict.Verdict.TheVariants.Wrong, verdict.Verdict.TheVariants.Bad, verdict.Verdict.TheVariants.TooLong}
 use Rattle.statement_check.proofs.Lines.{one_line, line_one, line_short, line_long}
 use Rattle.statement_check.proofs.Turns.{right_push, after_push}
 

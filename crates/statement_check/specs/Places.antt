@@ -1,12 +1,7 @@
 -- The place of a line in a statement, and the balance that is due in it.
 use Rattle.std.specs.Prelude.{◌≡◌, ℕ, ℤ, pos, ◌+ℤ◌, ◌-ℤ◌, List, [], ◌∷◌, Option, Some, None}
 use Rattle.statement_check.specs.Lines.{IsInRange}
-use Rattle.statement_check.specs.declared.line.Cause.{Cause}
-use Rattle.statement_check.specs.declared.line.Cause.TheVariants.{Deposit, Reset, Refund, Withdraw}
-use Rattle.statement_check.specs.declared.line.StatementLine.{StatementLine}
-use Rattle.statement_check.specs.declared.line.StatementLine.TheVariants.{Opening, Moved, Closing}
-use Rattle.statement_check.specs.declared.place.Place.{Place}
-use Rattle.statement_check.specs.declared.place.Place.TheVariants.{First, Behind, Closed}
+use Rattle.statement_check.specs.declared.{line.Cause.Cause, line.Cause.TheVariants.Deposit, line.Cause.TheVariants.Reset, line.Cause.TheVariants.Refund, line.Cause.TheVariants.Withdraw, line.StatementLine.StatementLine, line.StatementLine.TheVariants.Opening, line.StatementLine.TheVariants.Moved, line.StatementLine.TheVariants.Closing, place.Place.Place, place.Place.TheVariants.First, place.Place.TheVariants.Behind, place.Place.TheVariants.Closed}
 
 -- the balance in a line
 abbrev pub balance : StatementLine → ℕ

@@ -9,11 +9,7 @@ use Rattle.statement_check.specs.Lines.{line_text}
 use Rattle.statement_check.specs.Places.{IsRight, AreRight, place_behind, place_after}
 use Rattle.statement_check.specs.Statements.{IsStatement}
 use Rattle.statement_check.specs.Verdicts.{IsOpen, HasNoPlace, IsWrong, Decides, HasVerdict, status_for, report_for}
-use Rattle.statement_check.specs.declared.line.StatementLine.{StatementLine}
-use Rattle.statement_check.specs.declared.place.Place.{Place}
-use Rattle.statement_check.specs.declared.place.Place.TheVariants.{First, Closed}
-use Rattle.statement_check.specs.declared.verdict.Verdict.{Verdict}
-use Rattle.statement_check.specs.declared.verdict.Verdict.TheVariants.{Good, Wrong, Bad, TooLong}
+use Rattle.statement_check.specs.declared.{line.StatementLine.StatementLine, place.Place.Place, place.Place.TheVariants.First, place.Place.TheVariants.Closed, verdict.Verdict.Verdict, verdict.Verdict.TheVariants.Good, verdict.Verdict.TheVariants.Wrong, verdict.Verdict.TheVariants.Bad, verdict.Verdict.TheVariants.TooLong}
 
 -- the lines, each with its line end
 abbrev pub script_of : List StatementLine → List ℕ

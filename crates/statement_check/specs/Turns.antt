@@ -5,12 +5,7 @@ use Rattle.line_runs.specs.Lines.{IsOneLine, ended}
 use Rattle.statement_check.specs.Lines.{line_text}
 use Rattle.statement_check.specs.Places.{IsRight, AreRight, place_behind, place_after}
 use Rattle.statement_check.specs.Runs.{script_of, TakesLast, TakesUnended, Takes, TakesSome}
-use Rattle.statement_check.specs.declared.line.StatementLine.{StatementLine}
-use Rattle.statement_check.specs.declared.place.Place.{Place}
-use Rattle.statement_check.specs.declared.place.Place.TheVariants.{First}
-use Rattle.statement_check.specs.declared.verdict.Verdict.{Verdict}
-use Rattle.statement_check.specs.declared.judge.Turn.{Turn}
-use Rattle.statement_check.specs.declared.judge.Turn.TheVariants.{Goes, Ends}
+use Rattle.statement_check.specs.declared.{line.StatementLine.StatementLine, place.Place.Place, place.Place.TheVariants.First, verdict.Verdict.Verdict, judge.Turn.Turn, judge.Turn.TheVariants.Goes, judge.Turn.TheVariants.Ends}
 
 -- the bytes are a right line at this place, and the next is this one
 pub record IsChecked (place next : Place) (bytes : List ℕ) : Type 0 where

@@ -8,11 +8,7 @@ use Rattle.line_runs.specs.declared.status.Status.{Status}
 use Rattle.line_runs.specs.declared.status.Status.TheVariants as status
 use Rattle.statement_check.specs.Lines.{IsLineOf, line_text}
 use Rattle.statement_check.specs.Places.{balance, due, AreRight, place_after}
-use Rattle.statement_check.specs.declared.line.StatementLine.{StatementLine}
-use Rattle.statement_check.specs.declared.place.Place.{Place}
-use Rattle.statement_check.specs.declared.place.Place.TheVariants.{First, Behind, Closed}
-use Rattle.statement_check.specs.declared.verdict.Verdict.{Verdict}
-use Rattle.statement_check.specs.declared.verdict.Verdict.TheVariants.{Good, Wrong, Bad, TooLong}
+use Rattle.statement_check.specs.declared.{line.StatementLine.StatementLine, place.Place.Place, place.Place.TheVariants.First, place.Place.TheVariants.Behind, place.Place.TheVariants.Closed, verdict.Verdict.Verdict, verdict.Verdict.TheVariants.Good, verdict.Verdict.TheVariants.Wrong, verdict.Verdict.TheVariants.Bad, verdict.Verdict.TheVariants.TooLong}
 
 -- the statement was not closed yet
 abbrev pub IsOpen : Place → Type 0

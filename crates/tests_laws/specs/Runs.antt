@@ -1,9 +1,6 @@
 -- A row of steps: events with what they are answered, from one ledger to another.
 use Rattle.std.specs.Prelude.{◌≡◌, ℕ, ◌≤◌, Bool, true, false, ◌&&◌, List, [], ◌∷◌, Result, Ok, Err, ◌==◌, nat_le, if◌then◌else◌}
-use Rattle.bench_base.specs.declared.refusals.RateRefusal.{RateRefusal}
-use Rattle.bench_base.specs.declared.refusals.RateRefusal.TheVariants.{NoClass}
-use Rattle.bench_base.specs.declared.events.Event.{Event}
-use Rattle.bench_base.specs.declared.events.Reply.{Reply}
+use Rattle.bench_base.specs.declared.{refusals.RateRefusal.RateRefusal, refusals.RateRefusal.TheVariants.NoClass, events.Event.Event, events.Reply.Reply}
 use Rattle.bench_base.specs.Rules.{Rules}
 use Rattle.bench_base.specs.Ledger.{Ledger}
 use Rattle.ledger_moves.specs.Tariffs.{Tariff}

@@ -1,8 +1,6 @@
 -- A golden test of today's version of the rules, to the byte. It goes on after a ledger of the first one. The bytes were made by another program.
 use Rattle.std.specs.Prelude.{ℕ, pos, false, List, [], ◌∷◌, None}
-use Rattle.bench_base.specs.declared.words.Kind.TheVariants.{Reset, Audit}
-use Rattle.bench_base.specs.declared.words.Verdict.TheVariants.{Granted}
-use Rattle.bench_base.specs.declared.words.Phase.TheVariants.{InService}
+use Rattle.bench_base.specs.declared.{words.Kind.TheVariants.Reset, words.Kind.TheVariants.Audit, words.Verdict.TheVariants.Granted, words.Phase.TheVariants.InService}
 use Rattle.bench_base.specs.declared.refusals.DevRefusal.TheVariants as no
 use Rattle.bench_base.specs.declared.ledger.Commit.TheVariants as c
 use Rattle.bench_base.specs.declared.ledger.Entry.TheVariants as e

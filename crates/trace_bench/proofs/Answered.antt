@@ -23,8 +23,7 @@ use Rattle.centre_ledger.specs.Plans.{says, told_balance}
 use Rattle.ledger_moves.specs.Tariffs.{Tariff}
 use Rattle.ledger_moves.specs.Moves.{answer}
 use Rattle.ledger_moves.specs.Histories.{History}
-use Rattle.bench_abstraction.specs.declared.calls.DeviceCall.TheVariants.{Status}
-use Rattle.bench_abstraction.specs.declared.calls.CentreCall.TheVariants.{Balance}
+use Rattle.bench_abstraction.specs.declared.{calls.DeviceCall.TheVariants.Status, calls.CentreCall.TheVariants.Balance}
 use Rattle.bench_abstraction.specs.Centre.{centre_kind}
 use Rattle.bench_abstraction.specs.Devices.{device_kind, IsKnown}
 use Rattle.bench_abstraction.specs.Follows.{DevicesFollow, CentreFollows}

@@ -1,11 +1,8 @@
 -- What is heard of an event of a node, by the ledger.
 use Rattle.std.proofs.Common.{◌≡◌, ◌≢◌, ℕ, ℤ, List, ◌++◌, Option, Some, None, Result, Ok, Err, append-nil, refl, sym, ◌∙◌, ap, subst}
 use Rattle.std.specs.Prelude.{slice_set}
-use Rattle.bench_base.specs.declared.words.Node.{Node}
-use Rattle.bench_base.specs.declared.words.Node.TheVariants.{Device, Centre, Host, Verifier}
-use Rattle.bench_base.specs.declared.events.Event.{Event}
+use Rattle.bench_base.specs.declared.{words.Node.Node, words.Node.TheVariants.Device, words.Node.TheVariants.Centre, words.Node.TheVariants.Host, words.Node.TheVariants.Verifier, events.Event.Event, events.Reply.Reply}
 use Rattle.bench_base.specs.declared.events.Event.TheVariants as ev
-use Rattle.bench_base.specs.declared.events.Reply.{Reply}
 use Rattle.bench_base.specs.Rules.{editions}
 use Rattle.bench_base.specs.Ledger.{Ledger, day_in}
 use Rattle.bench_base.specs.Events.{IsWholeEvent}
@@ -18,13 +15,8 @@ use Rattle.verifier.specs.declared.acts.Change.{Change}
 use Rattle.host_rates.specs.Laws.{KeptPrices}
 use Rattle.ledger_moves.specs.Tariffs.{Tariff}
 use Rattle.ledger_moves.specs.Histories.{History, Unforged}
-use Rattle.bench_abstraction.specs.declared.calls.DeviceCall.{DeviceCall}
-use Rattle.bench_abstraction.specs.declared.calls.CentreCall.{CentreCall}
-use Rattle.bench_abstraction.specs.declared.calls.HostCall.{HostCall}
-use Rattle.bench_abstraction.specs.declared.calls.VerifierCall.{VerifierCall}
-use Rattle.bench_abstraction.specs.declared.routing.Routed.{Routed}
+use Rattle.bench_abstraction.specs.declared.{calls.DeviceCall.DeviceCall, calls.CentreCall.CentreCall, calls.HostCall.HostCall, calls.VerifierCall.VerifierCall, routing.Routed.Routed, routing.OfDay.OfDay}
 use Rattle.bench_abstraction.specs.declared.routing.Routed.TheVariants as route
-use Rattle.bench_abstraction.specs.declared.routing.OfDay.{OfDay}
 use Rattle.bench_abstraction.specs.declared.routing.OfDay.TheVariants as of_day
 use Rattle.bench_abstraction.specs.Centre as centres
 use Rattle.bench_abstraction.specs.Verifier as verifiers
@@ -33,9 +25,7 @@ use Rattle.bench_abstraction.specs.Kinds.{bench_kinds}
 use Rattle.bench_abstraction.specs.Messages.{sent_in}
 use Rattle.bench_abstraction.specs.Tariff.{IsOfTexts, Quote, quote, quote_in}
 use Rattle.bench_abstraction.specs.Routing.{routed}
-use Rattle.trace_nodes.specs.declared.giving.GaveOut.{GaveOut}
-use Rattle.trace_nodes.specs.declared.printing.PrintOutcome.{PrintOutcome}
-use Rattle.trace_nodes.specs.declared.traced.Traced.{Traced}
+use Rattle.trace_nodes.specs.declared.{giving.GaveOut.GaveOut, printing.PrintOutcome.PrintOutcome, traced.Traced.Traced}
 use Rattle.trace_views.specs.Verdicts.{listed}
 use Rattle.trace_views.specs.Verdicts as verdicts
 use Rattle.centre_ledger.specs.Seen as centre_counts

@@ -21,8 +21,7 @@ use Rattle.bench_abstraction.specs.Tariff.{IsOfTexts}
 use Rattle.bench_abstraction.proofs.RatesPlans.{plan_of, planned, are_rates, plan_rates}
 use Rattle.bench.specs.Outside.{rates_turn, rates_after}
 use Rattle.script_text.specs.Texts.{text_of}
-use Rattle.trace_bench.specs.declared.judging.Finding.{Finding}
-use Rattle.trace_bench.specs.declared.judging.Finding.TheVariants.{Wrong, Memory}
+use Rattle.trace_bench.specs.declared.{judging.Finding.Finding, judging.Finding.TheVariants.Wrong, judging.Finding.TheVariants.Memory}
 use Rattle.trace_views.specs.Verdicts.{Adds}
 use Rattle.trace_bench.specs.Judging.{taken_by, text_with, IsHeard}
 use Rattle.trace_bench.specs.Plainly.{heard_of_rates}

@@ -1,12 +1,6 @@
 -- Whether bytes from outside are forged, by what the auditor has: the keys of its records, and what was sent and released in all runs.
 use Rattle.std.specs.Prelude.{◌≡◌, ℕ, Bool, false, not, ◌&&◌, nat_le, List, Option, Some, None, option_map, Result, Ok, Err, ◌==◌, if◌then◌else◌, MatchBool}
-use Rattle.bench_base.specs.declared.words.Node.{Node}
-use Rattle.bench_base.specs.declared.words.Node.TheVariants.{Device, Centre, Host, Verifier}
-use Rattle.bench_base.specs.declared.refusals.Unread.{Unread}
-use Rattle.bench_base.specs.declared.refusals.MarkFault.{MarkFault}
-use Rattle.bench_base.specs.declared.events.Event.{Event}
-use Rattle.bench_base.specs.declared.questions.Brought.{Brought}
-use Rattle.bench_base.specs.declared.questions.Brought.TheVariants.{Nothing, Handed, Scanned}
+use Rattle.bench_base.specs.declared.{words.Node.Node, words.Node.TheVariants.Device, words.Node.TheVariants.Centre, words.Node.TheVariants.Host, words.Node.TheVariants.Verifier, refusals.Unread.Unread, refusals.MarkFault.MarkFault, events.Event.Event, questions.Brought.Brought, questions.Brought.TheVariants.Nothing, questions.Brought.TheVariants.Handed, questions.Brought.TheVariants.Scanned}
 use Rattle.bench_base.specs.Events.{brought_by}
 use Rattle.bench_base.specs.Ledger.{Ledger}
 use Rattle.bench_base.specs.Rules.{editions}
@@ -26,8 +20,7 @@ use Rattle.ledger_moves.specs.Histories.{History, Unforged}
 use Rattle.trace_device.specs.Records.{seen_of}
 use Rattle.trace_centre.specs.Cells as centre_cells
 use Rattle.trace_verifier.specs.Cells as verifier_cells
-use Rattle.trace_bench.specs.declared.known.ByteSet.{ByteSet}
-use Rattle.trace_bench.specs.declared.known.Known.{Known}
+use Rattle.trace_bench.specs.declared.{known.ByteSet.ByteSet, known.Known.Known}
 use Rattle.trace_bench.specs.Known.{has, IsAllFound, KeepsSame}
 use Rattle.trace_bench.specs.Seeing.{Audit, Sees}
 use Rattle.trace_bench.specs.Telling.{OfDevice}

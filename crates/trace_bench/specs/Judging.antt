@@ -1,7 +1,6 @@
 -- What the line of the report shows about an event, by the ledger.
 use Rattle.std.specs.Prelude.{◌≡◌, ◌≢◌, ℕ, ℤ, List, [], length, take, not, ◌&&◌, is_some, if◌then◌else◌, Option, Result, Ok, Err}
-use Rattle.bench_base.specs.declared.events.Event.{Event}
-use Rattle.bench_base.specs.declared.events.Reply.{Reply}
+use Rattle.bench_base.specs.declared.{events.Event.Event, events.Reply.Reply}
 use Rattle.bench_base.specs.Events.{takes_rates}
 use Rattle.bench_base.specs.Replies.{ReplyClass, Did, class_of, fails_to_read}
 use Rattle.bench_base.specs.Rules.{todays_rules, editions}
@@ -11,9 +10,7 @@ use Rattle.ledger_moves.specs.Moves.{Moves, answer, entries}
 use Rattle.ledger_moves.specs.Histories.{History, Unforged}
 use Rattle.bench_abstraction.specs.Tariff.{IsOfTexts}
 use Rattle.script_text.specs.Texts.{text_of, IsWholeReply}
-use Rattle.trace_bench.specs.declared.judging.Heard.{Heard}
-use Rattle.trace_bench.specs.declared.judging.Finding.{Finding}
-use Rattle.trace_bench.specs.declared.judging.Finding.TheVariants.{Wrong, Memory}
+use Rattle.trace_bench.specs.declared.{judging.Heard.Heard, judging.Finding.Finding, judging.Finding.TheVariants.Wrong, judging.Finding.TheVariants.Memory}
 use Rattle.trace_views.specs.Verdicts.{Adds}
 use Rattle.trace_bench.specs.Seeing.{Audit, Sees, SeesRun, sending}
 

@@ -4,8 +4,7 @@ use Rattle.std.specs.List.{list_any}
 use Rattle.bench_base.specs.Ledger.{Ledger, IsSent, IsReleased}
 use Rattle.trace_seen.specs.Marks.{asked, seen_as}
 use Rattle.trace_bench.specs.Debits.{TellsDebits}
-use Rattle.trace_bench.specs.declared.known.ByteSet.{ByteSet}
-use Rattle.trace_bench.specs.declared.known.Known.{Known}
+use Rattle.trace_bench.specs.declared.{known.ByteSet.ByteSet, known.Known.Known}
 
 -- == bytes that are kept, of values of any kind ==
 

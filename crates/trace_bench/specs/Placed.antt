@@ -6,8 +6,7 @@ use Rattle.psd_state.specs.State.{State}
 use Rattle.centre_ledger.specs.declared.rows.Row.{Row}
 use Rattle.bench_abstraction.specs.declared.calls.DeviceCall.{DeviceCall}
 use Rattle.bench_abstraction.specs.Comparing.{compare}
-use Rattle.trace_nodes.specs.declared.giving.GaveOut.{GaveOut}
-use Rattle.trace_nodes.specs.declared.traced.Traced.{Traced}
+use Rattle.trace_nodes.specs.declared.{giving.GaveOut.GaveOut, traced.Traced.Traced}
 use Rattle.trace_device.specs.declared.record.DeviceRecord.{DeviceRecord}
 use Rattle.trace_device.specs.Records.{view_of}
 use Rattle.trace_device.specs.Verdicts.{IsByLedger}

@@ -2,11 +2,8 @@
 use Rattle.std.specs.Prelude.{◌≡◌, ◌≢◌, List, ℕ, Some, None, Option, Result, Ok, Err}
 use Rattle.bench_base.specs.declared.events.Reply.{Reply}
 use Rattle.script_text.specs.Texts.{text_of, IsWholeReply}
-use Rattle.trace_nodes.specs.declared.giving.GaveOut.{GaveOut}
-use Rattle.trace_nodes.specs.declared.printing.PrintOutcome.{PrintOutcome}
-use Rattle.trace_bench.specs.declared.judging.Heard.{Heard}
-use Rattle.trace_bench.specs.declared.judging.Finding.{Finding}
-use Rattle.trace_bench.specs.declared.judging.Finding.TheVariants.{Wrong, Memory}
+use Rattle.trace_nodes.specs.declared.{giving.GaveOut.GaveOut, printing.PrintOutcome.PrintOutcome}
+use Rattle.trace_bench.specs.declared.{judging.Heard.Heard, judging.Finding.Finding, judging.Finding.TheVariants.Wrong, judging.Finding.TheVariants.Memory}
 use Rattle.trace_seen.specs.Marks.{Ticks}
 use Rattle.trace_bench.specs.Debits.{IsLastOf}
 use Rattle.trace_bench.specs.Known.{Learns}

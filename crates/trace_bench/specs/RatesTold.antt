@@ -8,8 +8,7 @@ use Rattle.host_rates.specs.Tables.{RateTable}
 use Rattle.host_rates.specs.Answers.{answer}
 use Rattle.script_text.specs.Texts.{text_of, IsWholeReply}
 use Rattle.bench.specs.Outside.{rates_turn, rates_after}
-use Rattle.trace_bench.specs.declared.judging.Finding.{Finding}
-use Rattle.trace_bench.specs.declared.judging.Finding.TheVariants.{Wrong, Memory}
+use Rattle.trace_bench.specs.declared.{judging.Finding.Finding, judging.Finding.TheVariants.Wrong, judging.Finding.TheVariants.Memory}
 
 -- so much is read of them
 abbrev pub text_of_rates : List ℕ → List ℕ

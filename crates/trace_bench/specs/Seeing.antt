@@ -20,8 +20,7 @@ use Rattle.trace_host.specs.Cells as host
 use Rattle.trace_verifier.specs.declared.record.ScanRecord.{ScanRecord}
 use Rattle.trace_verifier.specs.Cells as verifier
 use Rattle.trace_views.specs.Verdicts.{listed}
-use Rattle.trace_bench.specs.declared.auditor.Auditor.{Auditor}
-use Rattle.trace_bench.specs.declared.known.Known.{Known}
+use Rattle.trace_bench.specs.declared.{auditor.Auditor.Auditor, known.Known.Known}
 use Rattle.trace_bench.specs.Known.{Kept, Knows, kept_of}
 
 -- The day, the messages of the run (the one sent first is first), and the rates that were read last. The nodes as the report

@@ -1,8 +1,6 @@
 -- A report that ends before the line end of the answer to an event: which prefix of an answer it may end with, and what the auditor has after it.
 use Rattle.std.specs.Prelude.{◌≡◌, ◌⊎◌, ℕ, ◌+◌, List, [], ◌++◌, Option, Some, None, Result, Ok, Err}
-use Rattle.bench_base.specs.declared.words.Node.{Node}
-use Rattle.bench_base.specs.declared.events.Event.{Event}
-use Rattle.bench_base.specs.declared.events.Reply.{Reply}
+use Rattle.bench_base.specs.declared.{words.Node.Node, events.Event.Event, events.Reply.Reply}
 use Rattle.bench_base.specs.declared.events.Reply.TheVariants as r
 use Rattle.bench_base.specs.Replies.{Did}
 use Rattle.bench_base.specs.Rules.{todays_rules}
@@ -10,8 +8,7 @@ use Rattle.bench_base.specs.Ledger.{Ledger, day_in}
 use Rattle.ledger_moves.specs.Tariffs.{Tariff}
 use Rattle.ledger_moves.specs.Moves.{answer}
 use Rattle.script_text.specs.Texts.{text_of, IsWholeReply}
-use Rattle.trace_bench.specs.declared.judging.Finding.{Finding}
-use Rattle.trace_bench.specs.declared.judging.Finding.TheVariants.{Wrong, Memory}
+use Rattle.trace_bench.specs.declared.{judging.Finding.Finding, judging.Finding.TheVariants.Wrong, judging.Finding.TheVariants.Memory}
 use Rattle.trace_bench.specs.Judging.{MayGet, ledger_with, taken_by}
 use Rattle.trace_bench.specs.Seeing.{Audit, Sees}
 

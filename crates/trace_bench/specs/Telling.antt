@@ -1,25 +1,16 @@
 -- What an auditor reports of each node: what is answered to `status`, `balance` and `reconcile`, what the centre keeps, how many commits count, and
 -- where one is open.
 use Rattle.std.specs.Prelude.{◌≡◌, ℕ, ℤ, ◌+◌, [], Bool, true, Option, Some, None, is_some, option_map, slice_get}
-use Rattle.bench_base.specs.declared.words.Node.{Node}
-use Rattle.bench_base.specs.declared.words.Node.TheVariants.{Device, Centre, Host, Verifier}
+use Rattle.bench_base.specs.declared.{words.Node.Node, words.Node.TheVariants.Device, words.Node.TheVariants.Centre, words.Node.TheVariants.Host, words.Node.TheVariants.Verifier, events.DevView.DevView, events.Reply.Reply, refusals.DevRefusal.TheVariants.Blank, refusals.CentreRefusal.TheVariants.UnknownCustomer, events.Event.Event}
 use Rattle.bench_base.specs.declared.events.Event.TheVariants as ev
-use Rattle.bench_base.specs.declared.events.DevView.{DevView}
-use Rattle.bench_base.specs.declared.events.Reply.{Reply}
 use Rattle.bench_base.specs.declared.events.Reply.TheVariants as r
-use Rattle.bench_base.specs.declared.refusals.DevRefusal.TheVariants.{Blank}
-use Rattle.bench_base.specs.declared.refusals.CentreRefusal.TheVariants.{UnknownCustomer}
-use Rattle.bench_base.specs.declared.events.Event.{Event}
 use Rattle.bench_base.specs.Rules.{todays_rules, editions}
 use Rattle.bench_base.specs.Ledger.{Ledger, counted, day_in, is_on}
-use Rattle.node_acts.specs.declared.act.Act.{Act}
-use Rattle.node_acts.specs.declared.act.Act.TheVariants.{Refuse, Tell, Commits}
-use Rattle.node_acts.specs.declared.said.Said.{Said}
+use Rattle.node_acts.specs.declared.{act.Act.Act, act.Act.TheVariants.Refuse, act.Act.TheVariants.Tell, act.Act.TheVariants.Commits, said.Said.Said}
 use Rattle.psd_state.specs.State.{State}
 use Rattle.psd_state.specs.Answers.{status_of}
 use Rattle.psd_state.specs.Seen as device
-use Rattle.centre_ledger.specs.declared.rows.DeviceRow.{DeviceRow}
-use Rattle.centre_ledger.specs.declared.rows.CustomerRow.{CustomerRow}
+use Rattle.centre_ledger.specs.declared.{rows.DeviceRow.DeviceRow, rows.CustomerRow.CustomerRow}
 use Rattle.centre_ledger.specs.Acts.{standing_act}
 use Rattle.centre_ledger.specs.Books.{device_at, customer_at, left_in}
 use Rattle.centre_ledger.specs.Seen as centre
@@ -28,8 +19,7 @@ use Rattle.verifier.specs.Seen as verifier
 use Rattle.ledger_moves.specs.Tariffs.{Tariff}
 use Rattle.ledger_moves.specs.Moves.{answer}
 use Rattle.ledger_moves.specs.Histories.{History}
-use Rattle.bench_abstraction.specs.declared.calls.DeviceCall.TheVariants.{Status}
-use Rattle.bench_abstraction.specs.declared.calls.CentreCall.TheVariants.{Balance}
+use Rattle.bench_abstraction.specs.declared.{calls.DeviceCall.TheVariants.Status, calls.CentreCall.TheVariants.Balance}
 use Rattle.bench_abstraction.specs.Devices.{device_act}
 use Rattle.bench_abstraction.specs.Centre.{centre_act}
 use Rattle.bench_abstraction.specs.Comparing.{compared}

@@ -11,8 +11,7 @@ ghost use Rattle.trace_device.specs.Records.{seen_of};
 ghost use Rattle.trace_centre.specs.Cells.{cells_of};
 ghost use Rattle.trace_host.specs.Cells as host_cells;
 ghost use Rattle.trace_bench.specs.Seeing.{IsReady, Sees, audit_of};
-ghost use Rattle.trace_bench.specs.Telling.{OfDevice, Counts, Opens, done_by, status_by, balance_by, shown_by, left_by, reconcile_by, device_row_by, customer_row_by};
-ghost use Rattle.trace_bench.specs.Telling.{device_in, centre_in, host_in, count_in, SaysStatus, SaysBalance};
+ghost use Rattle.trace_bench.specs.Telling.{OfDevice, Counts, Opens, done_by, status_by, balance_by, shown_by, left_by, reconcile_by, device_row_by, customer_row_by, device_in, centre_in, host_in, count_in, SaysStatus, SaysBalance};
 
 use crate::auditor::Auditor;
 use bench_abstraction::laws::nodes_follow;

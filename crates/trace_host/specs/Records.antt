@@ -5,8 +5,7 @@ use Rattle.bench_base.specs.Ranges.{IsDevice}
 use Rattle.node_acts.specs.declared.asked.Asked.{Asked}
 use Rattle.node_acts.specs.RowList.{RowList, row_at, commits_at, commits_in}
 use Rattle.node_acts.specs.Kinds.{OfCall}
-use Rattle.host_jobs.specs.declared.rows.JobRow.{JobRow}
-use Rattle.host_jobs.specs.declared.sizes.TheConstants.{HOST_CELLS}
+use Rattle.host_jobs.specs.declared.{rows.JobRow.JobRow, sizes.TheConstants.HOST_CELLS}
 use Rattle.host_jobs.specs.ActLaws.{IsPrice}
 use Rattle.host_jobs.specs.Rows.{Jobs}
 use Rattle.host_jobs.specs.Seen.{Seen, rows_in}

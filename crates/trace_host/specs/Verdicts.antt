@@ -1,9 +1,6 @@
 -- What a line of the report shows about an event of the host, by what is seen of it, and by the ledger.
 use Rattle.std.specs.Prelude.{◌≡◌, ℕ, ℤ, List, Option, None, Result, Ok, Err}
-use Rattle.bench_base.specs.declared.words.Node.TheVariants.{Host}
-use Rattle.bench_base.specs.declared.ledger.Commit.{Commit}
-use Rattle.bench_base.specs.declared.events.Event.{Event}
-use Rattle.bench_base.specs.declared.events.Reply.{Reply}
+use Rattle.bench_base.specs.declared.{words.Node.TheVariants.Host, ledger.Commit.Commit, events.Event.Event, events.Reply.Reply}
 use Rattle.bench_base.specs.Plans.{Plan}
 use Rattle.bench_base.specs.Ledger.{Ledger}
 use Rattle.node_acts.specs.declared.asked.Asked.{Asked}

@@ -1,14 +1,10 @@
 -- A line of a call that may print: beside the results of the call, the printer may fail after its commit.
 use Rattle.std.proofs.Common.{◌≡◌, ◌≢◌, ◌⊎◌, inl, inr, ℕ, List, [], get_or, Option, Some, None, false, refl, sym, ◌∙◌, ap, arith}
-use Rattle.bench_base.specs.declared.words.Node.{Node}
-use Rattle.bench_base.specs.declared.ledger.Commit.{Commit}
-use Rattle.bench_base.specs.declared.events.Reply.{Reply}
+use Rattle.bench_base.specs.declared.{words.Node.Node, ledger.Commit.Commit, events.Reply.Reply}
 use Rattle.bench_base.specs.declared.events.Reply.TheVariants as r
 use Rattle.bench_base.specs.Plans.{Plan}
 use Rattle.bench_base.specs.Replies.{class_of, tells_printer}
-use Rattle.node_acts.specs.declared.act.Act.{Act}
-use Rattle.node_acts.specs.declared.act.Outcome.{Outcome}
-use Rattle.node_acts.specs.declared.said.Said.{Said}
+use Rattle.node_acts.specs.declared.{act.Act.Act, act.Outcome.Outcome, said.Said.Said}
 use Rattle.node_acts.specs.Views.{Counting, View}
 use Rattle.node_acts.specs.Acts.{commit_of, outcome_of, MayCome, after_call}
 use Rattle.node_acts.specs.Plans.{IsOfNode, Fails, MayReply, view_after, with_commit}

@@ -1,8 +1,7 @@
 //! Whether a line of the report can be the reply to an event of a node.
 ghost use Rattle.std.specs.Prelude.{◌≡◌, ◌≢◌, ◌↔◌, IsTrue, IfSome, IfNone};
 ghost use Rattle.bench_base.specs.declared.events.Reply.{Reply};
-ghost use Rattle.node_acts.specs.declared.act.Outcome.{Outcome};
-ghost use Rattle.node_acts.specs.declared.said.Said.{Said};
+ghost use Rattle.node_acts.specs.declared.{act.Outcome.Outcome, said.Said.Said};
 ghost use Rattle.node_acts.specs.Acts.{MayCome, commit_of, after_call};
 ghost use Rattle.node_acts.specs.Plans.{IsOfNode};
 ghost use Rattle.node_acts.specs.Said.{IsPlain, said_reply, said_entries, seen_plan};

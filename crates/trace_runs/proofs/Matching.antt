@@ -3,9 +3,7 @@ use Rattle.std.proofs.Common.{◌≡◌, ◌≢◌, ◌+◌, ◌==◌, ℕ, zero
 use Rattle.std.proofs.lemmas.Bool.{eqb-true}
 use Rattle.std.proofs.lemmas.List.{take-append-drop, take_at, drop_all}
 use Rattle.text_streams.specs.Texts.{print_line}
-use Rattle.trace_runs.specs.declared.imprint.Imprint.{Imprint}
-use Rattle.trace_runs.specs.declared.imprint.Printed.{Printed}
-use Rattle.trace_runs.specs.declared.imprint.Printed.TheVariants.{Whole, Failed, Stopped}
+use Rattle.trace_runs.specs.declared.{imprint.Imprint.Imprint, imprint.Printed.Printed, imprint.Printed.TheVariants.Whole, imprint.Printed.TheVariants.Failed, imprint.Printed.TheVariants.Stopped}
 use Rattle.trace_runs.specs.Prints.{Took, ArePrinted, IsWhole, FitsUpTo, BeginsOther, IsFit, DiffersAt}
 
 -- what follows the same bytes is the same

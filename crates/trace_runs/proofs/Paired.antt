@@ -13,10 +13,7 @@ use Rattle.trace_bench.specs.Seeing.{Audit, Sees}
 use Rattle.trace_runs.specs.Verdicts.{Pair, Skipped, Answered, IsPair, line_in, text_for, EndsSo, TellsSo, MayEnd, IsSo, Says, Audited, imprints_from, last_given}
 use Rattle.trace_runs.specs.Imprints.{imprint_at}
 use Rattle.trace_runs.specs.Turns.{AtHistories, StandsAt, Turned, Fell, FellPut, Progress, IsOver}
-use Rattle.trace_runs.specs.declared.imprint.Imprint.{Imprint}
-use Rattle.trace_runs.specs.declared.verdict.Ending.{Ending}
-use Rattle.trace_runs.specs.declared.verdict.Verdict.{Verdict}
-use Rattle.trace_runs.specs.declared.verdict.Verdict.TheVariants.{Lawful}
+use Rattle.trace_runs.specs.declared.{imprint.Imprint.Imprint, verdict.Ending.Ending, verdict.Verdict.Verdict, verdict.Verdict.TheVariants.Lawful}
 
 each_more : (P : Pair → Type 0) (a : List Pair) (p : Pair) → AllByRecursion P a → P p → AllByRecursion P (a ++ p ∷ [])
 each_more P [] p all is = (is, tt)

@@ -10,11 +10,7 @@ use Rattle.trace_bench.specs.Seeing.{Audit, Sees}
 use Rattle.trace_runs.specs.Reads.{IsRead, OfTexts}
 use Rattle.trace_runs.specs.Turns.{Turned, FellPut, IsOver, IsTurn, IsProgress, Progress}
 use Rattle.trace_runs.specs.Verdicts.{status_of, Audited, AuditedOf}
-use Rattle.trace_runs.specs.declared.audit.Step.{Step}
-use Rattle.trace_runs.specs.declared.imprint.Imprint.{Imprint}
-use Rattle.trace_runs.specs.declared.verdict.Ending.{Ending}
-use Rattle.trace_runs.specs.declared.verdict.Ending.TheVariants.{TooLong}
-use Rattle.trace_runs.specs.declared.verdict.Verdict.{Verdict}
+use Rattle.trace_runs.specs.declared.{audit.Step.Step, imprint.Imprint.Imprint, verdict.Ending.Ending, verdict.Ending.TheVariants.TooLong, verdict.Verdict.Verdict}
 use Rattle.trace_runs.proofs.Paired.{begun, progress_more, fallen}
 use Rattle.trace_runs.proofs.WasRead.{of_map, of_end, of_any, some, then_read}
 use Rattle.trace_runs.proofs.Turning.{ends_missing, ends_long}

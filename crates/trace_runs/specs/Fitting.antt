@@ -1,9 +1,8 @@
 -- What steps fit a script and its report, prints aside; and how the verdict of an audit stands to them.
 use Rattle.std.specs.Prelude.{◌≡◌, ℕ, ◌+◌, ◌≤◌, List, [], ◌∷◌, ◌++◌, length, map, drop, ◌⊎◌}
 use Rattle.std.specs.List.{AllByRecursion}
-use Rattle.bench_base.specs.declared.events.Event.{Event}
+use Rattle.bench_base.specs.declared.{events.Event.Event, ledger.Entry.TheVariants.Begin}
 use Rattle.bench_base.specs.declared.events.Event.TheVariants as ev
-use Rattle.bench_base.specs.declared.ledger.Entry.TheVariants.{Begin}
 use Rattle.bench_base.specs.Ledger.{Ledger}
 use Rattle.bench_base.specs.Rules.{editions}
 use Rattle.bench_abstraction.specs.Tariff.{IsOfTexts}
@@ -20,11 +19,7 @@ use Rattle.trace_bench.specs.Stopping.{IsPrefixOf}
 use Rattle.trace_runs.specs.Audits.{MayTell, IsRun}
 use Rattle.trace_runs.specs.Prints.{ArePrinted}
 use Rattle.trace_runs.specs.Verdicts.{IsEvent, Says, Audited, status_of}
-use Rattle.trace_runs.specs.declared.imprint.Imprint.{Imprint}
-use Rattle.trace_runs.specs.declared.verdict.Ending.{Ending}
-use Rattle.trace_runs.specs.declared.verdict.Ending.TheVariants.{Done as Ended, Script, TooLong}
-use Rattle.trace_runs.specs.declared.verdict.Verdict.{Verdict}
-use Rattle.trace_runs.specs.declared.verdict.Verdict.TheVariants.{Lawful, Stopped, Wrong, Forged, Unkept, More, Memory, Unread}
+use Rattle.trace_runs.specs.declared.{imprint.Imprint.Imprint, verdict.Ending.Ending, verdict.Ending.TheVariants.Done as Ended, verdict.Ending.TheVariants.Script, verdict.Ending.TheVariants.TooLong, verdict.Verdict.Verdict, verdict.Verdict.TheVariants.Lawful, verdict.Verdict.TheVariants.Stopped, verdict.Verdict.TheVariants.Wrong, verdict.Verdict.TheVariants.Forged, verdict.Verdict.TheVariants.Unkept, verdict.Verdict.TheVariants.More, verdict.Verdict.TheVariants.Memory, verdict.Verdict.TheVariants.Unread}
 
 -- each is possible in turn, at the ledger and with the rates that those before it leave
 abbrev pub AreTold : Tariff → Ledger → List ℕ → List StepRecord → Type 0

@@ -1,8 +1,7 @@
 -- What the printer was given in the events of a run.
 use Rattle.std.specs.Prelude.{◌≡◌, ◌≢◌, ◌↔◌, ℕ, List, [], ◌∷◌, Option, Some, None, option_map}
-use Rattle.bench_base.specs.declared.events.Event.{Event}
+use Rattle.bench_base.specs.declared.{events.Event.Event, events.Reply.Reply}
 use Rattle.bench_base.specs.declared.events.Event.TheVariants as ev
-use Rattle.bench_base.specs.declared.events.Reply.{Reply}
 use Rattle.bench_base.specs.declared.events.Reply.TheVariants as r
 use Rattle.bench_base.specs.Ledger.{Ledger}
 use Rattle.bench_base.specs.Rules.{todays_rules, editions}
@@ -13,10 +12,7 @@ use Rattle.node_turns.specs.Printing.{print_of}
 use Rattle.script_text.specs.Texts.{text_of}
 use Rattle.trace_bench.specs.Seeing.{Audit, Sees}
 use Rattle.trace_bench.specs.Stopping.{IsPrefixOf}
-use Rattle.trace_runs.specs.declared.imprint.Given.{Given}
-use Rattle.trace_runs.specs.declared.imprint.Imprint.{Imprint}
-use Rattle.trace_runs.specs.declared.imprint.Printed.{Printed}
-use Rattle.trace_runs.specs.declared.imprint.Printed.TheVariants.{Whole, Failed, Stopped}
+use Rattle.trace_runs.specs.declared.{imprint.Given.Given, imprint.Imprint.Imprint, imprint.Printed.Printed, imprint.Printed.TheVariants.Whole, imprint.Printed.TheVariants.Failed, imprint.Printed.TheVariants.Stopped}
 
 -- a mark with its whole line taken, or with a failure of the printer in its line
 abbrev pub taken_whole : List ℕ → Given

@@ -3,11 +3,7 @@ use Rattle.std.specs.Prelude.{◌≡◌, ◌≢◌, ℕ, zero, suc, List, [], �
 use Rattle.text_streams.specs.Texts.{print_line}
 use Rattle.line_runs.specs.Lines.{IsCutOff}
 use Rattle.trace_bench.specs.Stopping.{IsPrefixOf}
-use Rattle.trace_runs.specs.declared.imprint.Imprint.{Imprint}
-use Rattle.trace_runs.specs.declared.imprint.Printed.{Printed}
-use Rattle.trace_runs.specs.declared.imprint.Printed.TheVariants.{Whole, Failed, Stopped}
-use Rattle.trace_runs.specs.declared.prints.Match.{Match}
-use Rattle.trace_runs.specs.declared.prints.Match.TheVariants.{Fit, Differ, Open}
+use Rattle.trace_runs.specs.declared.{imprint.Imprint.Imprint, imprint.Printed.Printed, imprint.Printed.TheVariants.Whole, imprint.Printed.TheVariants.Failed, imprint.Printed.TheVariants.Stopped, prints.Match.Match, prints.Match.TheVariants.Fit, prints.Match.TheVariants.Differ, prints.Match.TheVariants.Open}
 
 -- The printer took the whole line of a mark; it failed in it, and took a prefix that isn't all of it; or the run was stopped there, and it
 -- took none, some or all of it.

@@ -2,10 +2,7 @@
 use Rattle.std.specs.Prelude.{◌≡◌, ◌≢◌, ℕ, List, [], ◌++◌, Bool, true, false, Option}
 use Rattle.std.specs.Io.KnownBytes.{Consumes, IsAtEnd}
 use Rattle.bench_base.specs.Causes.{Rose}
-use Rattle.trace_runs.specs.declared.verdict.Input.{Input}
-use Rattle.trace_runs.specs.declared.verdict.Input.TheVariants.{Script}
-use Rattle.trace_runs.specs.declared.verdict.Verdict.{Verdict}
-use Rattle.trace_runs.specs.declared.verdict.Verdict.TheVariants.{Unread}
+use Rattle.trace_runs.specs.declared.{verdict.Input.Input, verdict.Input.TheVariants.Script, verdict.Verdict.Verdict, verdict.Verdict.TheVariants.Unread}
 
 -- these bytes were read of a source; is_all says that its end was seen after them
 pub record IsRead (left0 left1 : Option (List ℕ)) : Type 0 where

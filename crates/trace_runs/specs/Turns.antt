@@ -2,8 +2,7 @@
 use Rattle.std.specs.Prelude.{◌≡◌, ℕ, ◌<◌, ◌≤◌, ◌⊎◌, List, [], ◌∷◌, ◌++◌, length, map, drop, flat_map, Bool, false, Option, Result, Ok, Err, IfOk}
 use Rattle.std.specs.Io.KnownBytes.{Consumes}
 use Rattle.std.specs.List.{AllByRecursion}
-use Rattle.bench_base.specs.declared.events.Event.{Event}
-use Rattle.bench_base.specs.declared.ledger.Entry.TheVariants.{Begin}
+use Rattle.bench_base.specs.declared.{events.Event.Event, ledger.Entry.TheVariants.Begin}
 use Rattle.bench_base.specs.Ledger.{Ledger}
 use Rattle.bench_base.specs.Rules.{editions}
 use Rattle.bench_abstraction.specs.Tariff.{IsOfTexts}
@@ -16,12 +15,7 @@ use Rattle.trace_bench.specs.Seeing.{Audit, Sees}
 use Rattle.trace_runs.specs.Imprints.{imprint_at}
 use Rattle.trace_runs.specs.Reads.{IsRead, OfTexts}
 use Rattle.trace_runs.specs.Verdicts.{Pair, IsPair, line_in, text_for, TellsSo, FallsAt, IsSo, imprints_from, last_given}
-use Rattle.trace_runs.specs.declared.imprint.Imprint.{Imprint}
-use Rattle.trace_runs.specs.declared.audit.Step.{Step}
-use Rattle.trace_runs.specs.declared.verdict.Ending.{Ending}
-use Rattle.trace_runs.specs.declared.verdict.Input.TheVariants.{Report}
-use Rattle.trace_runs.specs.declared.verdict.Verdict.{Verdict}
-use Rattle.trace_runs.specs.declared.verdict.Verdict.TheVariants.{Lawful, More, Unread}
+use Rattle.trace_runs.specs.declared.{imprint.Imprint.Imprint, audit.Step.Step, verdict.Ending.Ending, verdict.Input.TheVariants.Report, verdict.Verdict.Verdict, verdict.Verdict.TheVariants.Lawful, verdict.Verdict.TheVariants.More, verdict.Verdict.TheVariants.Unread}
 
 -- P of each history that the auditor has, by a tariff of texts
 abbrev pub AtHistories : Audit → (Tariff → Ledger → Type 0) → Type 0

@@ -2,12 +2,9 @@
 -- rest is what may be so at each ledger that the auditor sees as the run begins.
 use Rattle.std.specs.Prelude.{◌≡◌, ◌≢◌, ℕ, ◌+◌, ◌<◌, ◌≤◌, List, [], ◌∷◌, ◌++◌, length, map, drop, flat_map, false, Option, None}
 use Rattle.std.specs.List.{AllByRecursion}
-use Rattle.bench_base.specs.declared.events.Event.{Event}
+use Rattle.bench_base.specs.declared.{events.Event.Event, events.Reply.Reply, ledger.Entry.TheVariants.Begin, questions.Brought.TheVariants.Nothing}
 use Rattle.bench_base.specs.declared.events.Event.TheVariants as ev
-use Rattle.bench_base.specs.declared.events.Reply.{Reply}
 use Rattle.bench_base.specs.Events.{brought_by}
-use Rattle.bench_base.specs.declared.ledger.Entry.TheVariants.{Begin}
-use Rattle.bench_base.specs.declared.questions.Brought.TheVariants.{Nothing}
 use Rattle.bench_base.specs.Ledger.{Ledger}
 use Rattle.bench_base.specs.Rules.{todays_rules, editions}
 use Rattle.bench_abstraction.specs.Tariff.{IsOfTexts}
@@ -31,12 +28,7 @@ use Rattle.trace_bench.specs.Seeing.{Audit, Sees, keeps}
 use Rattle.trace_runs.specs.Audits.{MayTell}
 use Rattle.trace_runs.specs.Imprints.{IsGiven, IsLeftOpen, imprint_at}
 use Rattle.trace_runs.specs.Reads.{IsRead, OfTexts}
-use Rattle.trace_runs.specs.declared.imprint.Given.{Given}
-use Rattle.trace_runs.specs.declared.imprint.Imprint.{Imprint}
-use Rattle.trace_runs.specs.declared.verdict.Ending.{Ending}
-use Rattle.trace_runs.specs.declared.verdict.Ending.TheVariants.{Done as Ended, Script, TooLong}
-use Rattle.trace_runs.specs.declared.verdict.Verdict.{Verdict}
-use Rattle.trace_runs.specs.declared.verdict.Verdict.TheVariants.{Lawful, Stopped, Wrong, Forged, Unkept, More, Memory, Unread}
+use Rattle.trace_runs.specs.declared.{imprint.Given.Given, imprint.Imprint.Imprint, verdict.Ending.Ending, verdict.Ending.TheVariants.Done as Ended, verdict.Ending.TheVariants.Script, verdict.Ending.TheVariants.TooLong, verdict.Verdict.Verdict, verdict.Verdict.TheVariants.Lawful, verdict.Verdict.TheVariants.Stopped, verdict.Verdict.TheVariants.Wrong, verdict.Verdict.TheVariants.Forged, verdict.Verdict.TheVariants.Unkept, verdict.Verdict.TheVariants.More, verdict.Verdict.TheVariants.Memory, verdict.Verdict.TheVariants.Unread}
 
 -- == lines of the script, each with its line of the report ==
 

@@ -12,8 +12,7 @@ ghost use Rattle.trace_bench.specs.Seeing.{Audit};
 ghost use Rattle.trace_runs.specs.Audits.{IsRun, AreAlike, Fits, ledger_left};
 ghost use Rattle.trace_runs.specs.Fitting.{AreTold, IsExact, PrintsFit};
 ghost use Rattle.trace_runs.specs.Verdicts.{Audited, AuditedOf, Says};
-ghost use Rattle.trace_runs.specs.declared.imprint.Imprint.{Imprint};
-ghost use Rattle.trace_runs.specs.declared.verdict.Verdict.{Verdict};
+ghost use Rattle.trace_runs.specs.declared.{imprint.Imprint.Imprint, verdict.Verdict.Verdict};
 
 use ledger_laws::laws::histories;
 use script_text::laws::{one_line, one_reply};

@@ -3,8 +3,7 @@ use Rattle.std.proofs.Common.{◌≡◌, ◌⊎◌, inl, inr, ℕ, Bool, true, f
 use Rattle.std.specs.Prelude.{◌↔◌}
 use Rattle.std.proofs.lemmas.Option.{same_Some, none-some}
 use Rattle.std.proofs.lemmas.Slice.Eq.{bytes_eq-Decides}
-use Rattle.trace_seen.specs.declared.marks.Seen.{Seen}
-use Rattle.trace_seen.specs.declared.marks.SeenMarks.{SeenMarks}
+use Rattle.trace_seen.specs.declared.{marks.Seen.Seen, marks.SeenMarks.SeenMarks}
 use Rattle.trace_seen.specs.Marks.{seen_as, added, Adds, Tells, Ticks, TicksAt}
 
 -- a mark that had P

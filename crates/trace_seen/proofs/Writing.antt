@@ -7,8 +7,7 @@ use Rattle.std.specs.Map.{lookup, set_value}
 use Rattle.std.proofs.lemmas.Option.{same_Some}
 use Rattle.std.proofs.lemmas.Slice.Eq.{bytes_eq-Decides}
 use Rattle.std.proofs.lemmas.Map.Text.{is_eq-slice_cmp}
-use Rattle.trace_seen.specs.declared.marks.Seen.{Seen}
-use Rattle.trace_seen.specs.declared.marks.SeenMarks.{SeenMarks}
+use Rattle.trace_seen.specs.declared.{marks.Seen.Seen, marks.SeenMarks.SeenMarks}
 use Rattle.trace_seen.specs.Marks.{seen_as, line_of, added, Adds, Ticks, TicksAt}
 use Rattle.trace_seen.proofs.Telling.{same_at}
 

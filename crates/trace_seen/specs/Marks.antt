@@ -4,9 +4,7 @@ use Rattle.std.specs.List.{filter}
 use Rattle.std.specs.Ordering.{nat_cmp}
 use Rattle.std.specs.Cmp.Lexicographic.{slice_cmp}
 use Rattle.std.specs.BTreeMap as tree
-use Rattle.trace_seen.specs.declared.marks.Missing.{Missing}
-use Rattle.trace_seen.specs.declared.marks.Seen.{Seen}
-use Rattle.trace_seen.specs.declared.marks.SeenMarks.{SeenMarks}
+use Rattle.trace_seen.specs.declared.{marks.Missing.Missing, marks.Seen.Seen, marks.SeenMarks.SeenMarks}
 
 -- what is recorded of a mark, if it was seen
 abbrev pub seen_as : SeenMarks → List ℕ → Option Seen

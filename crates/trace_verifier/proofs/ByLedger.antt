@@ -1,8 +1,7 @@
 -- What is judged of a line by what is seen of the verifier is so by the ledger.
 use Rattle.std.proofs.Common.{ℕ, ℤ, List, Option, Result, refl}
 use Rattle.std.specs.Prelude.{IfSome}
-use Rattle.bench_base.specs.declared.words.Node.TheVariants.{Verifier}
-use Rattle.bench_base.specs.declared.events.Reply.{Reply}
+use Rattle.bench_base.specs.declared.{words.Node.TheVariants.Verifier, events.Reply.Reply}
 use Rattle.node_acts.specs.declared.asked.Asked.{Asked}
 use Rattle.node_acts.specs.Views.{View}
 use Rattle.verifier.specs.Seen.{Seen, counting, IsKnown}

@@ -6,9 +6,8 @@ use Rattle.bench_base.specs.Table.{IsBytes}
 use Rattle.node_acts.specs.declared.asked.Asked.{Asked}
 use Rattle.node_acts.specs.RowList.{row_at, commits_at, commits_in}
 use Rattle.node_acts.specs.Kinds.{OfCall}
-use Rattle.verifier.specs.declared.acts.Change.{Change}
+use Rattle.verifier.specs.declared.{acts.Change.Change, index.Entry.Entry}
 use Rattle.verifier.specs.declared.acts.Change.TheVariants as change
-use Rattle.verifier.specs.declared.index.Entry.{Entry}
 use Rattle.verifier.specs.Index.{IsIndexOf}
 use Rattle.verifier.specs.Rows.{Row, TrustRow, BlockRow}
 use Rattle.verifier.specs.Seen.{Seen, AreSound, scans_in}

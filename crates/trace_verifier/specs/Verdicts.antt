@@ -1,8 +1,6 @@
 -- What a line of the report shows about an event of the verifier, by what is seen of it, and by the ledger.
 use Rattle.std.specs.Prelude.{ℕ, ℤ, List, Option, Result}
-use Rattle.bench_base.specs.declared.words.Node.TheVariants.{Verifier}
-use Rattle.bench_base.specs.declared.ledger.Commit.{Commit}
-use Rattle.bench_base.specs.declared.events.Reply.{Reply}
+use Rattle.bench_base.specs.declared.{words.Node.TheVariants.Verifier, ledger.Commit.Commit, events.Reply.Reply}
 use Rattle.node_acts.specs.declared.asked.Asked.{Asked}
 use Rattle.node_acts.specs.Views.{View}
 use Rattle.verifier.specs.Seen.{Seen, counting}

@@ -1,9 +1,6 @@
 -- What a line of the report shows about an event of one node, by the ledger.
 use Rattle.std.specs.Prelude.{◌≡◌, ◌≢◌, ◌⊎◌, ◌↔◌, ℕ, ℤ, List, [], ◌∷◌, ◌++◌, Option, Some, None, Result, Ok, Err}
-use Rattle.bench_base.specs.declared.words.Node.{Node}
-use Rattle.bench_base.specs.declared.ledger.Commit.{Commit}
-use Rattle.bench_base.specs.declared.events.Event.{Event}
-use Rattle.bench_base.specs.declared.events.Reply.{Reply}
+use Rattle.bench_base.specs.declared.{words.Node.Node, ledger.Commit.Commit, events.Event.Event, events.Reply.Reply}
 use Rattle.bench_base.specs.Plans.{Plan}
 use Rattle.bench_base.specs.Rules.{todays_rules, editions}
 use Rattle.bench_base.specs.Ledger.{Ledger, day_in, IsSent, IsReleased}

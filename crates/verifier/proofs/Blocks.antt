@@ -4,9 +4,7 @@ use Rattle.std.specs.Prelude.{◌==◌, ◌&&◌, is_some, IsSome, unwrap_or, if
 use Rattle.std.proofs.lemmas.Bool.{cases_Bool, cases_eq, eqb-true, eq-eqb, ne_eqb, and_parts}
 use Rattle.std.proofs.lemmas.List.{get_or-replicate, length-replicate, get_or-set_same, get_or-set_other, length-set}
 use Rattle.std.proofs.lemmas.Option.{same_Some}
-use Rattle.bench_base.specs.declared.sizes.TheConstants.{BLOCK_PIECES}
-use Rattle.bench_base.specs.declared.ledger.Commit.{Commit}
-use Rattle.bench_base.specs.declared.ledger.Commit.TheVariants.{Trusted, Accepted}
+use Rattle.bench_base.specs.declared.{sizes.TheConstants.BLOCK_PIECES, ledger.Commit.Commit, ledger.Commit.TheVariants.Trusted, ledger.Commit.TheVariants.Accepted}
 use Rattle.bench_base.specs.Cells.{OfTrust, OfBlock, commits_at}
 use Rattle.bench_base.specs.Rows.{first_of}
 use Rattle.bench_base.specs.Scans.{trusted, accepted, block_of, block_place, with_block, blocks}

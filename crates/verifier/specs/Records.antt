@@ -1,7 +1,6 @@
 -- The rows of the verifier after a list of commits, the newest first, each in its cell.
 use Rattle.std.specs.Prelude.{ℕ, ◌+◌, ◌-◌, ◌*◌, List, [], ◌∷◌, length, All, Option, Some, None, option_map, unwrap_or, nat_lt, ◌==◌, if◌then◌else◌}
-use Rattle.bench_base.specs.declared.sizes.TheConstants.{VERIFIER_CELLS, FIRST_BLOCK, BLOCK_PIECES}
-use Rattle.bench_base.specs.declared.ledger.Commit.{Commit}
+use Rattle.bench_base.specs.declared.{sizes.TheConstants.VERIFIER_CELLS, sizes.TheConstants.FIRST_BLOCK, sizes.TheConstants.BLOCK_PIECES, ledger.Commit.Commit}
 use Rattle.bench_base.specs.Cells.{OfTrust, OfBlock, commits_at}
 use Rattle.bench_base.specs.Ranges.{InRange}
 use Rattle.bench_base.specs.Scans.{trusted, accepted, blocks}

@@ -1,6 +1,5 @@
 use Rattle.std.proofs.Common.{[], None, suc, replicate, true, false, ◌≡◌, length, refl, arith, subst, sym, ◌∙◌}
-use Rattle.bench_base.specs.declared.words.Node.TheVariants.{Device, Centre, Host, Verifier}
-use Rattle.bench_base.specs.declared.sizes.TheConstants.{RECORD_BYTES, SLOTS, DEVICE_BYTES, ROW_BYTES, CENTRE_CELLS, CENTRE_BYTES, BLOCK_BYTES, VERIFIER_CELLS, VERIFIER_BYTES}
+use Rattle.bench_base.specs.declared.{words.Node.TheVariants.Device, words.Node.TheVariants.Centre, words.Node.TheVariants.Host, words.Node.TheVariants.Verifier, sizes.TheConstants.RECORD_BYTES, sizes.TheConstants.SLOTS, sizes.TheConstants.DEVICE_BYTES, sizes.TheConstants.ROW_BYTES, sizes.TheConstants.CENTRE_CELLS, sizes.TheConstants.CENTRE_BYTES, sizes.TheConstants.BLOCK_BYTES, sizes.TheConstants.VERIFIER_CELLS, sizes.TheConstants.VERIFIER_BYTES}
 use Rattle.nv_model.specs.contracts.fused.FusedNv.TheImpl.{ghosts}
 use Rattle.nv_model.specs.Fuses.{inside}
 use Rattle.psd_device.specs.Knows.{shown_as}
