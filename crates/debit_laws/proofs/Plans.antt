@@ -141,12 +141,9 @@ module _ (ρ : Rules) (H : Ledger) where
     on_ok n = chosen (IsTame H) (is_on n H) (refuse (r.OnAlready n)) (told (r.Up n (count_of n C)) (e.Up n (count_of n C) ∷ [])) (λ on. still (r.OnAlready n)) (λ off. up_more (torn_of n H) n (count_of n C) C)
 
     event_ok : (x : Event) (text : List ℕ) (today : ℤ) → IsTame H (moves.plan_on τ ρ H x text today)
-    event_ok (ev.Day t) text today = inl refl
-    event_ok ev.End text today = inl refl
     event_ok ev.Rates text today = rates_ok text
     event_ok (ev.On n) text today = on_ok n
     event_ok (ev.Off n) text today = at n (told (r.Down n) (e.Down n ∷ [])) (inl refl)
-    event_ok (ev.Cut n calls keep byte) text today = inl refl
     event_ok (ev.Make d key) text today = at (Device d) (device.make_plan d key C (key_of d C)) (act_ok (r.DevRefused d) (λ u. r.Made d) (λ u. []) (acts.make_act d key (held d)) (λ u. tt))
     event_ok (ev.Debit d piece postage class) text today =
         let q = moves.debit_by d piece postage class in
@@ -179,6 +176,7 @@ module _ (ρ : Rules) (H : Ledger) where
     event_ok (ev.Reconcile d) text today =
         let p = moves.reconcile_plan d (key_of d C) C in
         at (Device d) (at_node Centre H p) (at Centre p (reconcile_ok d (key_of d C)))
+    event_ok _ text today = inl refl
 
     dated_ok : (x : Event) (text : List ℕ) (day : Option ℤ) → IsTame H (moves.on_day (moves.plan_on τ ρ H x text) day)
     dated_ok x text None = inl refl
