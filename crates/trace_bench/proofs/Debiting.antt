@@ -1,6 +1,6 @@
 -- What is debited after an event, by what the auditor has of the device that it was for.
 use Rattle.std.proofs.Common.{◌≡◌, ◌≢◌, ◌⊎◌, inl, inr, ℕ, ℤ, ◌+◌, ◌<◌, List, length, Option, Some, None, Result, Ok, Err, refl, sym, ◌∙◌, ap, subst, ⊎_elim, arith}
-use Rattle.std.specs.Prelude.{◌↔◌, ◌-◌, ◌≤◌, get_or, slice_get, slice_set}
+use Rattle.std.specs.Prelude.{◌↔◌, ◌-◌, ◌≤◌, get_or, slice_get}
 use Rattle.std.proofs.lemmas.Bool.{cases_eq}
 use Rattle.std.proofs.lemmas.Option.{same_Some, slice_get_cases, slice_get_within}
 use Rattle.bench_base.specs.declared.{events.Reply.Reply, events.Event.Event}
@@ -31,13 +31,13 @@ use Rattle.trace_bench.proofs.Sent.{DebitsHeard}
 
 -- no device was changed
 pub none_changed : (result : Result Heard Finding) (devices : List (Traced DeviceRecord State)) → OthersRest result devices devices
-none_changed (Ok heard) devices i s at other = at
+none_changed (Ok heard) devices = λ i s at other. at
 none_changed (Err finding) devices = tt
 
 -- nor was another than this one, in its place
 pub other_places : (d : ℕ) {today : ℤ} {asked : Asked DeviceCall} {line : List ℕ} {old new : List (Traced DeviceRecord State)} {judged : Result GaveOut Reply} → DeviceJudged d today asked line old new judged
     → OthersRest (heard_of_device d judged) old new
-other_places d {judged = Ok gave} of i s at other =
+other_places d {judged = Ok gave} of = λ i s at other.
     let differs : i ≢ of.place = λ same. other (ap (λ (k : ℕ). Some k) (of.is_device ∙ ap (λ (k : ℕ). k + 1) (sym same))) in
     sym (set_other _ of.place of.now i differs) ∙ subst (λ (l : List (Traced DeviceRecord State)). slice_get l i ≡ Some s) of.set at
 other_places d {judged = Err due} of = tt
@@ -102,3 +102,15 @@ pub debits_heard : (τ : Tariff) (H : Ledger) (e : Event) (left line : List ℕ)
 debits_heard τ H e left line history unforged law kept heard old now was eight others reply moves sees =
     debits_also old (sending heard.sent now) H (ledger_with τ H e left line reply) heard.device was sees others eight
     (law τ H e (text_with τ H e left line reply) reply history unforged moves) (λ mark. kept τ H mark history)
+
+-- == what is told of the marks that were seen ==
+
+-- the mark that is read of a device in its place is the one that this device keeps
+pub last_alike : (devices : List (Traced DeviceRecord State)) (d : ℕ) (s : Traced DeviceRecord State) → slice_get devices (d - 1) ≡ Some s → d ≡ d - 1 + 1 → (kept : Option (List ℕ)) → kept ≡ mark_in s.record.state
+    → (q : List ℕ) → (kept ≡ Some q) ↔ IsLastOf (Some d) devices q
+last_alike devices d s at named kept is q = (
+  λ same. (d - 1, s, named, at, sym is ∙ same),
+  λ last.
+      let place : d - 1 ≡ last.0 = omega (arith, last.2) in
+      is ∙ ap (λ (t : Traced DeviceRecord State). mark_in t.record.state) (same_Some _ _ (sym at ∙ ap (λ (i : ℕ). slice_get devices i) place ∙ last.3)) ∙ last.4,
+)

@@ -1,10 +1,10 @@
 -- What is kept of all runs follows the ledger.
-use Rattle.std.proofs.Common.{◌≡◌, ◌⊎◌, ◌↔◌, inl, inr, ℕ, List, [], ◌∷◌, false, true≢false, IsTrue, Option, None, Result, Ok, Err, OnOk, OnErr, refl, sym, ◌∙◌, subst}
+use Rattle.std.proofs.Common.{◌≡◌, ◌⊎◌, ◌↔◌, inl, inr, ℕ, List, [], ◌∷◌, IsTrue, Option, None, Result, Ok, Err, OnOk, OnErr, sym, ◌∙◌, subst}
 use Rattle.bench_base.specs.declared.ledger.Entry.TheVariants.{Begin}
 use Rattle.bench_base.specs.Ledger.{Ledger, IsSent, IsReleased, counted}
 use Rattle.debit_laws.specs.Debits.{IsDebited}
 use Rattle.trace_seen.specs.declared.marks.SeenMarks.{SeenMarks}
-use Rattle.trace_seen.specs.Marks.{Adds, Ticks, seen_as}
+use Rattle.trace_seen.specs.Marks.{Adds as AddsMark, Ticks, seen_as}
 use Rattle.trace_seen.proofs.Telling.{tells_more, tells_none, tells_alike, tells_added}
 use Rattle.trace_views.specs.Verdicts.{Adds}
 use Rattle.trace_bench.specs.Debits.{TellsDebits}
@@ -60,7 +60,7 @@ knows_blank k blank = record {
 }
 
 -- nothing is debited at the empty ledger, so one more mark that was seen is recorded as not debited
-pub debits_added : {E : Type 0} (mark : List ℕ) (line : ℕ) (old new : SeenMarks) (r : Result (Option ℕ) E) → OnOk r (Adds mark line old new) → OnErr r ((q : List ℕ) → seen_as new q ≡ seen_as old q)
+pub debits_added : {E : Type 0} (mark : List ℕ) (line : ℕ) (old new : SeenMarks) (r : Result (Option ℕ) E) → OnOk r (AddsMark mark line old new) → OnErr r ((q : List ℕ) → seen_as new q ≡ seen_as old q)
     → TellsDebits old [] → TellsDebits new []
 debits_added mark line old new (Ok first) adds same tells = tells_added (λ q. IsDebited q []) mark line old new (λ is. is) adds tells
 debits_added mark line old new (Err e) adds same tells = tells_alike (λ q. IsDebited q []) old new same tells

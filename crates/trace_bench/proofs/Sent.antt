@@ -1,9 +1,14 @@
 -- What is judged of a line, once its message is sent.
-use Rattle.std.proofs.Common.{ℕ, List, Result, Ok, Err, sym, ◌∙◌, subst}
+use Rattle.std.proofs.Common.{◌≡◌, ℕ, List, false, true≢false, Option, Result, Ok, Err, OnOk, is_err, sym, ◌∙◌, subst}
 use Rattle.bench_base.specs.declared.{events.Event.Event, events.Reply.Reply}
 use Rattle.bench_base.specs.Ledger.{Ledger}
 use Rattle.ledger_moves.specs.Tariffs.{Tariff}
-use Rattle.trace_bench.specs.declared.{judging.Heard.Heard, judging.Finding.Finding, judging.Finding.TheVariants.Wrong, judging.Finding.TheVariants.Memory, known.Known.Known}
+use Rattle.psd_state.specs.State.{State}
+use Rattle.trace_nodes.specs.declared.traced.Traced.{Traced}
+use Rattle.trace_device.specs.declared.record.DeviceRecord.{DeviceRecord}
+use Rattle.trace_seen.specs.declared.marks.SeenMarks.{SeenMarks}
+use Rattle.trace_seen.specs.Marks.{Ticks}
+use Rattle.trace_bench.specs.declared.{judging.Heard.Heard, judging.Finding.Finding, judging.Finding.TheVariants.Wrong, judging.Finding.TheVariants.Memory}
 use Rattle.trace_bench.specs.Debits.{IsLastOf}
 use Rattle.trace_bench.specs.Judging.{MayGet, ledger_with, IsUntold, IsUntoldBy, IsHeard, IsJudged}
 use Rattle.trace_bench.specs.Plainly.{SendsHeard}
@@ -46,3 +51,15 @@ module _ (τ : Tariff) (H : Ledger) (e : Event) (left line : List ℕ) where
   pub heard_wrong : (a : Audit) (finding : Finding) → Knows a.known H → IsHeard τ H e left line a (Err finding) → IsJudged τ H e left line a (Err finding)
   heard_wrong a (Wrong due) knows of = untold_known a due knows of
   heard_wrong a Memory knows of = tt
+
+-- == what was sent and released is kept, and marks that were seen are told as debited ==
+
+-- what holds if there was memory, if there was
+pub learnt : {A E P : Type 0} (r : Result A E) → is_err r ≡ false → OnOk r P → P
+learnt (Ok x) fine on = on
+learnt (Err e) fine on = absurd (true≢false fine)
+
+-- the marks of the last debit are told as debited, also by equal lists of devices and equal marks
+pub ticked : (device : Option ℕ) {read devices : List (Traced DeviceRecord State)} {old now new : SeenMarks} → read ≡ devices → new ≡ now → Ticks (λ q. IsLastOf device read q) old now → Ticks (λ q. IsLastOf device devices q) old new
+ticked device {read} {old} {new} same kept ticks =
+    subst (λ (l : List (Traced DeviceRecord State)). Ticks (λ q. IsLastOf device l q) old new) same (subst (λ (s : SeenMarks). Ticks (λ q. IsLastOf device read q) old s) (sym kept) ticks)

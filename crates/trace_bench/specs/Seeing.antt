@@ -1,5 +1,5 @@
 -- What an auditor has, and when that is what a ledger shows.
-use Rattle.std.specs.Prelude.{◌≡◌, ℕ, ℤ, ◌+◌, Bool, List, ◌++◌, Option, Some, length, slice_get}
+use Rattle.std.specs.Prelude.{◌≡◌, ℕ, ℤ, ◌+◌, List, ◌++◌, Option, Some, length, slice_get}
 use Rattle.bench_base.specs.declared.words.Node.TheVariants.{Device, Centre, Host, Verifier}
 use Rattle.bench_base.specs.Ledger.{Ledger}
 use Rattle.node_acts.specs.Kinds.{view_in}

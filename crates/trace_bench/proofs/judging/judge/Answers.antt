@@ -1,5 +1,4 @@
 use Rattle.std.proofs.Common.{sym, subst}
-use Rattle.trace_bench.specs.Debits.{OthersRest}
 use Rattle.trace_bench.specs.Known.{Knows}
 use Rattle.trace_bench.specs.Seeing.{audit_of}
 use Rattle.trace_bench.proofs.Debiting.{debits_heard}
