@@ -8,7 +8,7 @@ use Rattle.trace_nodes.specs.declared.traced.Traced.{Traced}
 use Rattle.trace_device.specs.declared.record.DeviceRecord.{DeviceRecord}
 use Rattle.trace_seen.specs.declared.marks.SeenMarks.{SeenMarks}
 use Rattle.trace_seen.specs.Marks.{Ticks}
-use Rattle.trace_bench.specs.declared.{judging.Heard.Heard, judging.Finding.Finding, judging.Finding.TheVariants.Wrong, judging.Finding.TheVariants.Memory}
+use Rattle.trace_bench.specs.declared.{judging.Heard.Heard, judging.Finding.Finding, judging.Finding.TheVariants.Wrong, judging.Finding.TheVariants.Memory, known.Known.Known}
 use Rattle.trace_bench.specs.Debits.{IsLastOf}
 use Rattle.trace_bench.specs.Judging.{MayGet, ledger_with, IsUntold, IsUntoldBy, IsHeard, IsJudged}
 use Rattle.trace_bench.specs.Plainly.{SendsHeard}
