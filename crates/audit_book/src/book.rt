@@ -17,7 +17,7 @@ use bench_base::words::{JobState, Node, Verdict};
 use std::alloc::{AllocError, Global};
 use trace_nodes::is_told;
 
-/// A commit, and the line whose event made it.
+/// A commit, and the line of the event that made it.
 #[derive(Clone, Copy)]
 pub struct Made {
     pub place: Place,
@@ -43,10 +43,10 @@ pub struct Book {
     pub pieces: Pieces,
     /// What the page of an audit shows besides.
     pub facts: Facts,
-    /// Of each device, from device 1 on, what it asked last.
+    /// For each device, from device 1 on, what it asked last.
     asks: [Option<Ask>; 8],
     sends: Sends,
-    /// Of each node the commit that is in doubt.
+    /// For each node, the commit that is in doubt.
     open: [Option<Made>; 11],
     journal: Journal,
 }
@@ -270,7 +270,7 @@ impl Book {
 }
 
 impl Book {
-    // The job whose message this is, if a piece is debited by it.
+    // The job with this message, if the message debits a piece.
     fn job_behind(&self, doing: &Doing, due: &Reply) -> Option<u32> {
         if is_given_again(due) {
             return None;
@@ -630,8 +630,8 @@ impl Book {
         self.void(rt, names, place, made)
     }
 
-    /// Sees what this line shows of a commit: it counts, is in doubt until its node comes on, or was not made. BookFault::Write if standard output takes no more,
-    /// BookFault::Memory is lack of memory.
+    /// Sees what this line shows of a commit: it counts, is in doubt until its node comes on, or was not made. BookFault::Write if standard
+    /// output takes no more, BookFault::Memory is lack of memory.
     pub fn settle(
         &mut self,
         rt: &HostRuntime,

@@ -4,7 +4,7 @@ use bench_base::words::{Kind, Verdict};
 use centre_ledger::DeviceRow;
 use psd_wire::{Message, read_message};
 
-/// How many commits of the node count, whether one is open, and the balance of whom the commit is.
+/// How many commits of the node count, whether one is open, and the balance of the owner of the commit.
 #[derive(Clone, Copy)]
 pub struct Figures {
     pub commits: u64,
@@ -30,7 +30,7 @@ pub struct Seen {
     pub ruling: Option<Ruling>,
 }
 
-/// The last ruling of the centre in a row of a device. None if there was none.
+/// The last ruling of the centre in a row of a device. None if there was no ruling.
 pub fn last_ruling(row: &DeviceRow) -> Option<Ruling> {
     let Ok(Message::Request(asked)) = read_message(row.request.as_slice()) else {
         return None;

@@ -13,7 +13,7 @@ fn paid(size: u64) -> Amount
     Amount { minus: false, size }
 }
 
-// What was added to the balance; nothing if there was none before, as of a device whose enrolment is ruled on.
+// What was added to the balance; None if there was no balance before, as for a device with its enrolment ruled on.
 fn moved(before: Option<u64>, after: Option<u64>) -> Option<Amount>
     ensures unknown { after ≡ None → result ≡ None }
     ensures added { (b a : ℕ) → before ≡ Some b → after ≡ Some a → IsSomeAnd result (λ m. MatchBool m.minus (b ≡ a + m.size) (b + m.size ≡ a)) }

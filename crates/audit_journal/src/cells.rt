@@ -137,7 +137,7 @@ fn of_words(made: Result<String, AllocError>) -> Result<Cell, AllocError> {
     Ok(Cell::Words(made?))
 }
 
-// Adds where and when it was done, and by whom: line, day and node.
+// Adds where and when it was done, and by which node: line, day and node.
 fn add_place(alloc: Global, cells: &mut Vec<Cell>, row: &Row<'_>) -> Result<(), AllocError> {
     add_cell(cells, number_cell(alloc, Some(row.at.line as u64)))?;
     add_cell(cells, day_cell(alloc, row.entry.day))?;
@@ -155,7 +155,7 @@ fn add_commit(
     add_cell(cells, word_cell(alloc, ruling_word(entry.verdict)))
 }
 
-// Adds of whom it was done: device, customer and number.
+// Adds whose account it was done to: device, customer and number.
 fn add_subject(
     alloc: Global,
     cells: &mut Vec<Cell>,
@@ -166,7 +166,7 @@ fn add_subject(
     add_cell(cells, number_cell(alloc, Some(entry.number as u64)))
 }
 
-// Adds of which mail it was done: piece, job and class.
+// Adds the mail that it was done to: piece, job and class.
 fn add_mail(alloc: Global, cells: &mut Vec<Cell>, entry: &JournalEntry) -> Result<(), AllocError> {
     add_cell(cells, number_cell(alloc, widened(entry.piece)))?;
     add_cell(cells, number_cell(alloc, widened(entry.job)))?;
@@ -193,7 +193,7 @@ fn add_account(
     add_cell(cells, number_cell(alloc, entry.balance))
 }
 
-// Adds what was done, of whom and of which mail: the columns up to the class.
+// Adds what was done, to which account and to which mail: the columns up to the class.
 fn add_front(alloc: Global, cells: &mut Vec<Cell>, row: &Row<'_>) -> Result<(), AllocError> {
     add_place(alloc, cells, row)?;
     add_commit(alloc, cells, &row.entry)?;

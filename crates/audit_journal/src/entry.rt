@@ -1,4 +1,4 @@
-//! What a node did at a line of a script, as the journal has it. Amounts are in mills.
+//! What a node did at a line of a script, as the journal shows it. Amounts are in mills.
 ghost use Rattle.std.specs.Prelude.{◌<◌};
 
 use bench_base::numbers::{Customer, DayNo, DevNo};
@@ -55,7 +55,7 @@ pub struct JournalEntry {
     pub device: Option<DevNo>,
     /// The customer of a call of the centre, or of the device that is enrolled.
     pub customer: Option<Customer>,
-    /// The number of a request, a piece, a receipt or a job; 0 if there is none.
+    /// The number of a request, a piece, a receipt or a job; 0 if there is no number.
     pub number: u32,
     pub piece: Option<u32>,
     pub job: Option<u32>,
@@ -70,7 +70,7 @@ pub struct JournalEntry {
 }
 
 impl JournalEntry {
-    /// An entry of which only the node and the kind of commit are known.
+    /// An entry with only the node and the kind of commit known.
     pub fn new(node: Node, commit: CommitKind) -> JournalEntry {
         JournalEntry {
             node,
@@ -102,10 +102,10 @@ pub struct At<'a> {
 /// A row of the journal.
 #[derive(Clone, Copy)]
 pub struct Row<'a> {
-    /// The line whose event made the commit.
+    /// The line of the event that made the commit.
     pub at: At<'a>,
     pub entry: JournalEntry,
-    /// The `up` at which a commit that was in doubt came to count.
+    /// The `up` that made a commit count that was in doubt.
     pub counted: Option<At<'a>>,
 }
 

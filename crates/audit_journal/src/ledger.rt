@@ -51,7 +51,7 @@ pub fn place_text(alloc: Global, at: At<'_>) -> Result<String, AllocError> {
     format!(in alloc; "{run} line {}", at.line)
 }
 
-// What was done, of whom, under which number, and where.
+// What was done, to which account, under which number, and where.
 fn description(alloc: Global, row: &Row<'_>) -> Result<String, AllocError> {
     let commit = commit_text(alloc, &row.entry)?;
     let who = whose(alloc, &row.entry)?;
@@ -59,7 +59,7 @@ fn description(alloc: Global, row: &Row<'_>) -> Result<String, AllocError> {
     format!(in alloc; "{commit} {who} {}, {place}", row.entry.number)
 }
 
-// What follows the description: the `up` at which the commit came to count.
+// What follows the description: the `up` that made the commit count.
 fn remark(alloc: Global, counted: Option<At<'_>>) -> Result<String, AllocError> {
     match counted {
         Some(up) => {

@@ -10,7 +10,7 @@ fn quoted(alloc: Global, text: &str) -> Result<String, AllocError> {
     Ok(text)
 }
 
-// What is in the column, as JSON has it.
+// What is in the column, as a JSON value.
 fn value_of(alloc: Global, cell: &Cell) -> Result<String, AllocError> {
     match cell {
         Cell::Empty => format!(in alloc; "null"),

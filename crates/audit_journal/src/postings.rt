@@ -87,7 +87,7 @@ fn other_name(alloc: Global, other: Other) -> Result<String, AllocError> {
     }
 }
 
-// That the account has this balance then.
+// The assertion that the account has this balance then.
 fn assertion(alloc: Global, balance: Option<u64>) -> Result<String, AllocError> {
     match balance {
         Some(balance) => {

@@ -3,7 +3,7 @@ use crate::entry::CommitKind;
 use bench_base::words::{Kind, Node, Verdict};
 use std::alloc::{AllocError, Global};
 
-/// The word for what a commit did. That of a request follows `asked`.
+/// The word for what a commit did. The word for a request follows `asked`.
 pub fn commit_word(commit: CommitKind) -> &'static str {
     match commit {
         CommitKind::Made => "made",

@@ -30,7 +30,7 @@ pub struct Journal {
     form: Form,
     kept: Vec<u8>,
     has_rows: bool,
-    /// Of each node the date of its last transaction.
+    /// For each node, the date of its last transaction.
     dates: [Option<DayNo>; 11],
 }
 
@@ -145,7 +145,8 @@ impl Journal {
         self.write_much(rt)
     }
 
-    /// Notes that the commit of the row is in doubt: in a ledger, by a comment. BookFault::Write if standard output takes no more, BookFault::Memory is lack of memory.
+    /// Notes that the commit of the row is in doubt: in a ledger, by a comment. BookFault::Write if standard output takes no more,
+    /// BookFault::Memory is lack of memory.
     pub fn doubt(&mut self, rt: &HostRuntime, row: &Row<'_>) -> Result<(), BookFault> {
         let Form::Ledger = self.form else {
             return Ok(());
@@ -154,8 +155,8 @@ impl Journal {
         self.write_much(rt)
     }
 
-    /// Notes that the commit of the row, which was in doubt, does not count by this `up`: in a ledger, by a comment. BookFault::Write if standard output takes no more,
-    /// BookFault::Memory is lack of memory.
+    /// Notes that the commit of the row, which was in doubt, does not count by this `up`: in a ledger, by a comment. BookFault::Write if
+    /// standard output takes no more, BookFault::Memory is lack of memory.
     pub fn void(&mut self, rt: &HostRuntime, row: &Row<'_>, up: At<'_>) -> Result<(), BookFault> {
         let Form::Ledger = self.form else {
             return Ok(());

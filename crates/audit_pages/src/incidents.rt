@@ -80,7 +80,7 @@ fn outcome_words(outcome: Outcome) -> &'static str {
     }
 }
 
-// What went wrong, and on which day.
+// What went wrong, and its day.
 fn dated_text(alloc: Global, incident: &Incident) -> Result<String, AllocError> {
     let what = mishap_text(alloc, &incident.mishap)?;
     let day = day_text(alloc, incident.day)?;

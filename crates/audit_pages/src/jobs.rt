@@ -93,7 +93,8 @@ fn spoiled_text(alloc: Global, spoiled: &Spoiled) -> Result<String, AllocError> 
     format!(in alloc; "spoiled {} postage {postage}", spoiled.count)
 }
 
-/// Prints how many jobs were closed whose mark is paid and was not printed. BookFault::Write if standard output takes no more, BookFault::Memory is lack of memory.
+/// Prints how many jobs were closed with a mark that is paid and was not printed. BookFault::Write if standard output takes no more,
+/// BookFault::Memory is lack of memory.
 pub fn tell_spoiled(rt: &HostRuntime, book: &Book) -> Result<(), BookFault> {
     let spoiled = spoiled_in(&book.pieces, book.jobs.as_slice());
     say(rt, spoiled_text(rt.alloc(), &spoiled))
@@ -155,7 +156,8 @@ fn tell_unaccepted_of(rt: &HostRuntime, device: DevNo, pieces: &[Piece]) -> Resu
     tell_span(rt, device, span)
 }
 
-/// Prints the pieces whose marks were given out and not accepted. BookFault::Write if standard output takes no more, BookFault::Memory is lack of memory.
+/// Prints the pieces with marks that were given out and not accepted. BookFault::Write if standard output takes no more, BookFault::Memory is lack
+/// of memory.
 pub fn tell_unaccepted(rt: &HostRuntime, pieces: &Pieces) -> Result<(), BookFault> {
     for number in 1..9 {
         if let Some(device) = DevNo::new(number) {

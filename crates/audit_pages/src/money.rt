@@ -1,4 +1,4 @@
-//! Where the money is: with customers, on the way to a device, on devices, or franked. Amounts are in mills.
+//! The places of all money: with customers, on the way to a device, on devices, or franked. Amounts are in mills.
 ghost use Rattle.trace_bench.specs.Seeing.{IsReady, audit_of};
 
 use crate::rulings::ruling_of;

@@ -162,8 +162,8 @@ fn tell_lists(rt: &HostRuntime, names: &[String], book: &Book) -> Result<(), Boo
     tell_failures(rt, names, book)
 }
 
-/// Prints the page of these runs, each with its digest, if this is the last day that was reported. Without one nothing was done in any run, and no device was made.
-/// BookFault::Write if standard output takes no more, BookFault::Memory is lack of memory.
+/// Prints the page of these runs, each with its digest, if this is the last day that was reported. Without one nothing was done in any run,
+/// and no device was made. BookFault::Write if standard output takes no more, BookFault::Memory is lack of memory.
 pub fn tell_page(
     rt: &HostRuntime,
     names: &[String],

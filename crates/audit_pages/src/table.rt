@@ -107,8 +107,8 @@ fn tell_others(rt: &HostRuntime, auditor: &Auditor) -> Result<(), BookFault>
     tell_node(rt, auditor, &Node::Verifier)
 }
 
-/// Prints the table, if this is the last day that was reported. Without one nothing was done in any run, and no device was made. BookFault::Write if standard output takes no
-/// more, BookFault::Memory is lack of memory.
+/// Prints the table, if this is the last day that was reported. Without one nothing was done in any run, and no device was made.
+/// BookFault::Write if standard output takes no more, BookFault::Memory is lack of memory.
 pub fn tell_table(rt: &HostRuntime, auditor: &Auditor, day: Option<DayNo>) -> Result<(), BookFault>
     requires ready { IsReady (audit_of auditor.now) }
 {

@@ -162,7 +162,7 @@ fn take<'a, K: Sink>(
     }))
 }
 
-// Goes over the first line of what is left: what is left after it. None if there is none, or nothing more is due.
+// Goes over the first line of what is left: what is left after it. None if there is no line, or nothing more is due.
 fn turn<'a, K: Sink>(
     alloc: Global,
     auditor: &mut Auditor,
@@ -186,10 +186,10 @@ fn turn<'a, K: Sink>(
     }
 }
 
-/// Goes over a run after what the auditor has, and writes the answers that were due from the line on in which it was stopped, a line each, as the report would have them, up to the
-/// script's `end`, a bad line or its last one. Where a node's next `up` alone says what became of an event, it is taken as done without a failure. Nothing is written
-/// if the report ends in a failure of a node. BookFault::Counted if a line of the report is no answer to its event, BookFault::Write if the sink failed, BookFault::Memory is
-/// lack of memory.
+/// Goes over a run after what the auditor has, and writes the answers that were due from the line of the stop on, a line each, as the report would
+/// have them. It goes up to the script's `end`, a bad line or its last line. If only a node's next `up` says what happened to an event, the event is
+/// taken as done without a failure. Nothing is written if the report ends in a failure of a node. BookFault::Counted if a line of the report is no
+/// answer to its event, BookFault::Write if the sink failed, BookFault::Memory is lack of memory.
 pub fn put_due<K: Sink>(
     alloc: Global,
     auditor: &mut Auditor,

@@ -16,7 +16,7 @@ use script_text::{Line, is_skipped, read_event};
 use std::alloc::{AllocError, Global};
 use trace_bench::{Auditor, Finding, due_to, stop};
 
-// What judgements say of a line whose answer was found to be missing, or to be begun: the line of the reply with which its event was done, or none if that is in doubt.
+// What judgements say of a line with a missing or a begun answer: the line of the reply with which its event was done, or None if that is in doubt.
 fn broken_off(
     alloc: Global,
     auditor: &mut Auditor,
@@ -118,8 +118,8 @@ fn tell_print(
 }
 
 impl Recount {
-    /// A clerk that went over no run, and a journal of this form. What is sent and released is kept, or not, which what is counted does not need; and what the page of an audit
-    /// shows besides. AllocError is lack of memory.
+    /// A clerk that went over no run, and a journal of this form. What is sent and released is kept, or not, which what is counted does not
+    /// need; and so is what the page of an audit shows besides. AllocError is lack of memory.
     pub fn new(
         alloc: Global,
         form: Form,
@@ -222,7 +222,7 @@ impl Recount {
             .hear(alloc, place, self.auditor.day(), doing, due, line)
     }
 
-    // Takes an event in which the run was stopped: it was done with the reply that begins so, or its commit is in doubt, if it makes one.
+    // Takes the event of the stop of the run: it was done with the reply that begins so, or its commit is in doubt, if it makes one.
     fn break_off(
         &mut self,
         rt: &HostRuntime,
@@ -241,7 +241,7 @@ impl Recount {
         }
     }
 
-    // Takes an event in which the run was stopped, where this answer was due without a failure.
+    // Takes the event of the stop of the run, with the answer that was due without a failure.
     fn break_off_due(
         &mut self,
         rt: &HostRuntime,
@@ -331,8 +331,9 @@ impl Recount {
         }
     }
 
-    /// Goes over the run of this place among the names, as far as its report has answers, and over the event of the line in which it was stopped.
-    /// BookFault::Write if standard output takes no more, BookFault::Counted if a line is judged otherwise than before, BookFault::Memory is lack of memory.
+    /// Goes over the run of this place among the names, as far as its report has answers, and over the event of the line of the stop.
+    /// BookFault::Write if standard output takes no more, BookFault::Counted if a line is judged otherwise than before, BookFault::Memory is lack of
+    /// memory.
     pub fn go_over(
         &mut self,
         rt: &HostRuntime,

@@ -1,8 +1,6 @@
 -- The words on lines.
 use Rattle.std.specs.Prelude.{◌<◌, ◌⊎◌, Bool, true, false}
-use Rattle.audit_seen.specs.declared.counts.Counts.{Counts}
-use Rattle.audit_seen.specs.declared.counts.Word.{Word}
-use Rattle.audit_seen.specs.declared.counts.Word.TheVariants.{Debited, Never, Unknown}
+use Rattle.audit_seen.specs.declared.{counts.Counts.Counts, counts.Word.Word, counts.Word.TheVariants.Debited, counts.Word.TheVariants.Never, counts.Word.TheVariants.Unknown}
 
 -- the word on the line that has a mark first: whether it was debited decides, and otherwise whether its device was made
 abbrev pub word_by : Bool → Bool → Word

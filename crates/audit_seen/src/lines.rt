@@ -43,7 +43,7 @@ pub fn no_mark_text(
     format!(in alloc; "seen {file} line {line}: no mark, {why}")
 }
 
-/// What is said of a line whose mark is that of an earlier one. AllocError is lack of memory.
+/// What is said of a line with the mark of an earlier line. AllocError is lack of memory.
 pub fn twice_text(
     alloc: Global,
     file: &str,
@@ -56,7 +56,7 @@ pub fn twice_text(
     format!(in alloc; "seen {file} line {line}: seen twice, first in line {first}, {named}")
 }
 
-/// What is said of a line whose mark was not debited, by whether the device that it names was made. AllocError is lack of memory.
+/// What is said of a line with a mark that was not debited, by whether the device that it names was made. AllocError is lack of memory.
 pub fn missing_text(
     alloc: Global,
     file: &str,

@@ -51,7 +51,8 @@ fn bytes_of(line: &[u8]) -> Option<[u8; 64]>
     }
 }
 
-/// The mark that a line is: 128 hexadecimal digits, lower or upper case, which read as a mark of either version. Its code is not looked at. NoMark says why it is none.
+/// The mark that a line is: 128 hexadecimal digits, lower or upper case, which read as a mark of either version. Its MAC is not looked at. NoMark
+/// says why the line is not a mark.
 pub fn read_mark(line: &[u8]) -> Result<[u8; 64], NoMark>
     ensures found { IfOk result (λ mark. IsMarkOf line.now mark) }
     ensures none { IfErr result (λ why. (mark : List ℕ) → IsMarkOf line.now mark → ⊥) }

@@ -1,4 +1,4 @@
-//! Where a node lost its power, a storage or a printer failed, or a run was stopped, and whether the line was done.
+//! Incidents: a node lost its power, a storage or a printer failed, or a run was stopped; with whether the line was done.
 use crate::place::Place;
 use bench_base::events::Reply;
 use bench_base::numbers::{DayNo, DevNo};
@@ -11,7 +11,7 @@ use trace_nodes::is_told;
 pub enum Mishap {
     Power(Node),
     Fault(Node),
-    /// The job whose mark could not be printed.
+    /// The job with the mark that could not be printed.
     Printer(u32),
     /// The report ends before the answer to the line.
     Stop,
@@ -27,7 +27,7 @@ pub enum Outcome {
     NotDone,
 }
 
-/// What went wrong, where, and on which day.
+/// What went wrong, its place and its day.
 #[derive(Clone, Copy)]
 pub struct Incident {
     pub place: Place,
@@ -42,7 +42,7 @@ pub struct Incidents {
     rows: Vec<Incident>,
 }
 
-// That this node lost its power, or its storage failed, if the line reports that.
+// The loss of power of this node, or the failure of its storage, if the line reports one.
 fn failure_at(node: &Node, line: &[u8]) -> Option<Mishap> {
     if is_told(&Reply::Power(*node), line) {
         return Some(Mishap::Power(*node));
@@ -64,7 +64,8 @@ fn node_at(place: u32) -> Node {
     }
 }
 
-/// What went wrong if the line is not that of the answer that was due; `printing` is the job that was to be printed. None if it reports only that a commit in doubt counts.
+/// What went wrong if the line is not that of the answer that was due; `printing` is the job that was to be printed. None if it reports
+/// only that a commit in doubt counts.
 pub fn mishap_at(printing: Option<u32>, line: &[u8]) -> Option<Mishap> {
     if let Some(job) = printing {
         if is_told(&Reply::PrinterFault(job), line) {

@@ -12,7 +12,7 @@ pub struct Job {
     pub class: u16,
     pub postage: u64,
     pub state: JobState,
-    /// The day on which it came so far.
+    /// The day when it came so far.
     pub day: Option<DayNo>,
     pub printed: bool,
     /// The day on which it was ordered, whether it held its mark, and whether its print was begun.
@@ -31,7 +31,7 @@ impl Job {
     }
 }
 
-/// All jobs that were ordered, the first of which is job 1.
+/// All jobs that were ordered, from job 1 on.
 #[derive(Drop)]
 pub struct Jobs {
     rows: Vec<Job>,
@@ -50,7 +50,7 @@ impl Jobs {
         }
     }
 
-    /// The jobs, the first of which is job 1.
+    /// The jobs, from job 1 on.
     pub fn as_slice(&self) -> &[Job] {
         self.rows.as_slice()
     }
@@ -89,7 +89,7 @@ impl Jobs {
         Ok(())
     }
 
-    /// Keeps how far the job came, and on which day.
+    /// Keeps how far the job came, and its day.
     pub fn come(&mut self, job: u32, state: JobState, day: Option<DayNo>) {
         let Some(at) = place(job) else {
             return;

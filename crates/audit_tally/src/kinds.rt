@@ -23,7 +23,7 @@ pub enum Doing {
         piece: u32,
         class: u16,
     },
-    /// The job whose mark is to be printed.
+    /// The job with the mark to be printed.
     Print(u32),
     /// The number of the message that is delivered.
     Deliver(u32),
@@ -161,7 +161,7 @@ fn applied(device: DevNo, number: u32, verdict: Verdict) -> Option<JournalEntry>
     })
 }
 
-// The class of the piece, if the event has it.
+// The class of the piece, if the event names one.
 fn class_in(doing: &Doing) -> Option<u16> {
     match doing {
         Doing::Debit(class) => Some(*class),

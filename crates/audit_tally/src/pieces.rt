@@ -8,14 +8,14 @@ pub struct Piece {
     pub postage: u64,
     /// None if the mark was asked for in a way that the papers do not show.
     pub class: Option<u16>,
-    /// The job that holds its mark, or before that the one whose message asked for it.
+    /// The job that holds its mark, or before that the job with the message that asked for it.
     pub job: Option<u32>,
     /// Whether its mark was given out.
     pub released: bool,
     pub accepted: bool,
 }
 
-/// Of each device its pieces, the first of which is piece 1.
+/// The pieces of each device, from piece 1 on.
 #[derive(Drop)]
 pub struct Pieces {
     of: Vec<Vec<Piece>>,
@@ -36,7 +36,7 @@ impl Pieces {
         Ok(Pieces { of })
     }
 
-    /// The pieces of the device, the first of which is piece 1.
+    /// The pieces of the device, from piece 1 on.
     pub fn of_device(&self, device: DevNo) -> &[Piece] {
         match self.of.get(device.get() as usize - 1) {
             Some(pieces) => pieces.as_slice(),

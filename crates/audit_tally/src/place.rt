@@ -1,4 +1,4 @@
-//! Where something was reported.
+//! The place at which something was reported.
 ghost use Rattle.std.specs.Prelude.{◌≡◌, ◌↔◌, IsTrue};
 
 /// A line of a script: of the run of this place among all, counted from 0, and its number, counted from 1.

@@ -1,15 +1,15 @@
-//! The messages of a run: which of them asks for the mark of which job.
+//! The messages of a run: which message asks for the mark of which job.
 use bench_base::events::Reply;
 use bench_base::questions::Report;
 use std::alloc::{AllocError, Global};
 
-/// Of each message of a run, from message 0 on, the job whose mark it asks for.
+/// For each message of a run, from message 0 on, the job that it asks a mark for.
 #[derive(Drop)]
 pub struct Sends {
     jobs: Vec<Option<u32>>,
 }
 
-// The job whose mark the message asks for, if the reply sent a message.
+// The job that the message asks a mark for, if the reply sent a message.
 fn sent_by(reply: &Reply) -> Option<Option<u32>> {
     match reply.report() {
         Report::Debit { job, .. } => Some(Some(job)),
@@ -39,7 +39,7 @@ impl Sends {
         Ok(())
     }
 
-    /// The job whose mark the message of this number asks for, if it does.
+    /// The job that the message of this number asks a mark for, if it asks for one.
     pub fn job_of(&self, message: u32) -> Option<u32> {
         self.jobs.get(message as usize).copied()?
     }

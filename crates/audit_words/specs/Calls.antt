@@ -1,10 +1,7 @@
 -- What the words after the program's name call for.
 use Rattle.std.specs.Prelude.{◌≡◌, ℕ, Bool, false, nat_eq, List, [], ◌∷◌, codes, string_bytes, Result, Ok, Err}
 use Rattle.std.specs.List.{Contains, starts_with}
-use Rattle.audit_words.specs.declared.reading.Call.{Call}
-use Rattle.audit_words.specs.declared.reading.Call.TheVariants.{Audit, Check, Help, Version}
-use Rattle.audit_words.specs.declared.reading.WordsFault.{WordsFault}
-use Rattle.audit_words.specs.declared.reading.WordsFault.TheVariants.{Usage, Memory}
+use Rattle.audit_words.specs.declared.{reading.Call.Call, reading.Call.TheVariants.Audit, reading.Call.TheVariants.Check, reading.Call.TheVariants.Help, reading.Call.TheVariants.Version, reading.WordsFault.WordsFault, reading.WordsFault.TheVariants.Usage, reading.WordsFault.TheVariants.Memory}
 
 -- the word begins with two dashes
 abbrev pub is_option : List ℕ → Bool
@@ -32,8 +29,8 @@ ReadsAudit (Ok Help) = ⊥
 ReadsAudit (Ok Version) = ⊥
 ReadsAudit (Err fault) = Unit {0}
 
--- WHAT WORDS CALL FOR: for help, if one of them is `--help`; otherwise for the version, if one is `--version`; otherwise for a look at a script, if one is `--check`; and
--- otherwise for an audit.
+-- WHAT WORDS CALL FOR: for help, if one of them is `--help`; otherwise for the version, if one is `--version`; otherwise for a look at a
+-- script, if one is `--check`; and otherwise for an audit.
 pub record Reads (words : List (List ℕ)) (result : Result Call WordsFault) : Type 0 where
   pub help : Contains words (codes "--help") → result ≡ Ok Help
   pub version : (Contains words (codes "--help") → ⊥) → Contains words (codes "--version") → result ≡ Ok Version

@@ -23,7 +23,7 @@ pub enum Asked {
 /// What the words of an audit ask for.
 #[derive(Drop)]
 pub struct Words {
-    /// The folder whose runs come before those that are named.
+    /// The folder with the runs that come before those that are named.
     pub folder: Option<String>,
     /// The file of the rates of every run; None if each has its own.
     pub rates: Option<String>,
@@ -90,7 +90,7 @@ fn asked_by(word: &str) -> Option<Asked> {
     }
 }
 
-// What the word behind this one is for, if this is an option that asks for one.
+// What the word after this one is for, if this is an option that asks for one.
 fn operand_of(word: &str) -> Option<Operand> {
     match word {
         "--runs" => Some(Operand::Folder),
@@ -182,7 +182,7 @@ impl Reader {
         self.take_name(word)
     }
 
-    // What was read, behind the last word.
+    // What was read, after the last word.
     fn end(self) -> Result<Words, WordsFault> {
         if self.wanted.is_some() {
             return Err(WordsFault::Usage);
@@ -257,9 +257,10 @@ fn read_check(words: Vec<String>) -> Result<String, WordsFault>
     }
 }
 
-/// What the words behind the program's name call for. Options stand in any order, also behind names; `--help` and `--version` take precedence over all others.
-/// WordsFault::Usage if a word that begins with `--` is no option, if an option lacks its file or is given twice, if more than one thing is asked for beside the verdicts,
-/// if no run is named, or if a script to be looked at stands not alone; WordsFault::Memory is lack of memory.
+/// What the words after the program's name call for. Options may be in any order, also after names; `--help` and `--version` take precedence over
+/// all others. WordsFault::Usage if a word that begins with `--` is no option, or if an option lacks its file or is given twice. WordsFault::Usage
+/// also if more than one thing is asked for beside the verdicts, if no run is named, or if a script to be looked at is not alone. WordsFault::Memory
+/// is lack of memory.
 pub fn read_call(alloc: Global, words: Vec<String>) -> Result<Call, WordsFault>
     ensures { Reads (map string_bytes words.items) result }
 {

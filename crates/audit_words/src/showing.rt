@@ -58,8 +58,8 @@ fn show_byte(text: &mut String, byte: u8) -> Result<(), AllocError>
     show_digits(text, byte)
 }
 
-/// The bytes as text: those that are no printable ASCII as `\xNN`, and a backslash twice. So no byte of them ends the line or reaches the terminal as a command.
-/// AllocError is lack of memory.
+/// The bytes as text: those that are no printable ASCII as `\xNN`, and a backslash twice. So no byte of them ends the line or reaches the
+/// terminal as a command. AllocError is lack of memory.
 pub fn shown(alloc: Global, bytes: &[u8]) -> Result<String, AllocError>
     ensures exact { IfOk result (λ text. string_bytes text ≡ shown_bytes bytes.now) }
     ensures printable { IfOk result (λ text. All IsPrintable (string_bytes text)) }

@@ -3,12 +3,9 @@
 use Rattle.std.proofs.Common.{◌≡◌, ◌≢◌, inl, inr, ◌⊎◌, ⊎_elim, ℕ, ℤ, ◌+◌, ◌-◌, [], ◌∷◌, Option, Some, None, Bool, true, false, ◌↔◌, refl, sym, ◌∙◌, ap, subst, true≢false, arith}
 use Rattle.std.specs.Prelude.{slice_get, IsSome}
 use Rattle.std.proofs.lemmas.Option.{same_Some}
-use Rattle.bench_base.specs.declared.words.Node.{Node}
-use Rattle.bench_base.specs.declared.words.Node.TheVariants.{Device, Centre, Host, Verifier}
+use Rattle.bench_base.specs.declared.{words.Node.Node, words.Node.TheVariants.Device, words.Node.TheVariants.Centre, words.Node.TheVariants.Host, words.Node.TheVariants.Verifier, events.Event.Event, events.Reply.Reply}
 use Rattle.bench_base.specs.declared.ledger.Entry.TheVariants as entry
-use Rattle.bench_base.specs.declared.events.Event.{Event}
 use Rattle.bench_base.specs.declared.events.Event.TheVariants as ev
-use Rattle.bench_base.specs.declared.events.Reply.{Reply}
 use Rattle.bench_base.specs.declared.events.Reply.TheVariants as r
 use Rattle.bench_base.specs.Events.{needs_day, day_after, IsWholeEvent}
 use Rattle.bench_base.specs.Plans.{Plan, refuse}
@@ -78,7 +75,7 @@ reads_nothing e reply today kept out not = record {
   later = omega arith;
 }
 
--- a reply that tells of no failure, nor of the printer
+-- a reply that reports neither a failure nor anything of the printer
 pub record Answers (x : Event) (reply : Reply) : Type 0 where
   pub gets : MayGet x reply
   pub says : Adds x reply (in_order [])

@@ -5,9 +5,7 @@ use Rattle.std.proofs.lemmas.Bool.{cases_eq}
 use Rattle.std.proofs.lemmas.List.{length-set}
 use Rattle.std.proofs.lemmas.Option.{slice_get_within}
 use Rattle.bench_base.specs.Ledger.{Ledger}
-use Rattle.bench_base.specs.declared.ledger.Entry.TheVariants.{Begin}
-use Rattle.bench_base.specs.declared.words.Node.{Node}
-use Rattle.bench_base.specs.declared.words.Node.TheVariants.{Device, Centre, Host, Verifier}
+use Rattle.bench_base.specs.declared.{ledger.Entry.TheVariants.Begin, words.Node.Node, words.Node.TheVariants.Device, words.Node.TheVariants.Centre, words.Node.TheVariants.Host, words.Node.TheVariants.Verifier}
 use Rattle.nv_model.specs.declared.nv.Nv as nv
 use Rattle.node_acts.specs.Kinds.{view_in}
 use Rattle.node_storage.specs.declared.node.Node.{Ghosts}

@@ -5,9 +5,7 @@ use Rattle.bench_base.specs.declared.sizes.TheConstants.{CENTRE_CELLS}
 use Rattle.node_acts.specs.RowList.{row_at, row_of}
 use Rattle.node_acts.specs.RowLaws.{listed_long, listed_is}
 use Rattle.node_acts.proofs.Blanks.{none_at, few_none}
-use Rattle.centre_ledger.specs.declared.rows.DeviceRow.{DeviceRow}
-use Rattle.centre_ledger.specs.declared.rows.CustomerRow.{CustomerRow}
-use Rattle.centre_ledger.specs.declared.rows.Row.{Row}
+use Rattle.centre_ledger.specs.declared.{rows.DeviceRow.DeviceRow, rows.CustomerRow.CustomerRow, rows.Row.Row}
 use Rattle.centre_ledger.specs.Books.{AreSound, no_rows}
 use Rattle.centre_ledger.specs.Seen.{books_in, device_in, customer_in}
 use Rattle.centre_ledger.proofs.Kept.{none_kept}

@@ -1,19 +1,12 @@
 -- An event of a node, whatever the kind of the node: what it came to, and what the printer took in it. A call is done by its act.
 use Rattle.std.proofs.Common.{◌≡◌, ◌≢◌, ℕ, ℤ, [], sym, subst}
-use Rattle.bench_base.specs.declared.words.Node.{Node}
-use Rattle.bench_base.specs.declared.words.Node.TheVariants.{Host}
-use Rattle.bench_base.specs.declared.events.Event.{Event}
+use Rattle.bench_base.specs.declared.{words.Node.Node, words.Node.TheVariants.Host, events.Event.Event, events.Reply.Reply}
 use Rattle.bench_base.specs.declared.events.Event.TheVariants as ev
-use Rattle.bench_base.specs.declared.events.Reply.{Reply}
 use Rattle.bench_base.specs.declared.events.Reply.TheVariants as r
 use Rattle.bench_base.specs.Events.{node_for, IsAt}
 use Rattle.nv_model.specs.declared.nv.Nv as nv
 use Rattle.nv_model.specs.declared.fuse.Fuse as fuse
-use Rattle.node_acts.specs.declared.act.Act.{Act}
-use Rattle.node_acts.specs.declared.act.Outcome.{Outcome}
-use Rattle.node_acts.specs.declared.asked.Asked.{Asked}
-use Rattle.node_acts.specs.declared.asked.Asked.TheVariants.{On, Off, Cut, Call}
-use Rattle.node_acts.specs.declared.said.Said.{Said}
+use Rattle.node_acts.specs.declared.{act.Act.Act, act.Outcome.Outcome, asked.Asked.Asked, asked.Asked.TheVariants.On, asked.Asked.TheVariants.Off, asked.Asked.TheVariants.Cut, asked.Asked.TheVariants.Call, said.Said.Said}
 use Rattle.node_acts.specs.Acts.{TellsOf, commit_of}
 use Rattle.node_acts.specs.Kinds.{Kind}
 use Rattle.node_acts.specs.Said.{seen_plan}
@@ -32,7 +25,7 @@ use Rattle.bench.specs.Calls.{Comes, Told, asked_event}
 use Rattle.bench.proofs.Unprinted.{unprinted, none_printed}
 
 module _ {K S N C R X : Type 0} (n : Ghosts K S N C R) (g : nv.Ghosts S) (f : fuse.Ghosts S) (kind : Kind N n.Seen X) (m : Node) (d : N) (today : ℤ) (event : X → Event) (IsAsked : X → Type 0) (by : X → n.Seen → Act C Reply Said) where
-  -- the acts of the calls that are asked so: how they are told, what they plan, and what they change
+  -- the acts of these calls: how they are reported, what they plan, and what they change
   pub record AreActs : Type 0 where
     pub of : (c : X) → IsCallOf m (event c)
     pub told : (c : X) (s : n.Seen) → IsToldBy m (event c) (by c s)

@@ -1,17 +1,14 @@
--- The acts of the centre's calls: what they change, and how they are told.
+-- The acts of the centre's calls: what they change, and how they are reported.
 use Rattle.std.proofs.Common.{◌≢◌, ℕ, List, Option, Some, None, refl, inl, inr, arith}
-use Rattle.bench_base.specs.declared.words.Node.TheVariants.{Centre}
-use Rattle.bench_base.specs.declared.refusals.CentreRefusal.{CentreRefusal}
+use Rattle.bench_base.specs.declared.{words.Node.TheVariants.Centre, refusals.CentreRefusal.CentreRefusal}
 use Rattle.bench_base.specs.declared.events.Event.TheVariants as ev
 use Rattle.bench_base.specs.declared.events.Reply.TheVariants as r
 use Rattle.node_acts.specs.Plans.{IsOfNode}
 use Rattle.node_acts.proofs.OfCommits.{of_commit, commit_says}
 use Rattle.node_storage.specs.declared.node.Node.{Ghosts}
 use Rattle.node_storage.specs.Shown.{IsFitting}
-use Rattle.centre_ledger.specs.declared.rows.Row.{Row}
-use Rattle.centre_ledger.specs.declared.rows.CustomerRow.{CustomerRow}
+use Rattle.centre_ledger.specs.declared.{rows.Row.Row, rows.CustomerRow.CustomerRow, taking.CentreAnswer.CentreAnswer}
 use Rattle.psd_wire.specs.Grammar.{read}
-use Rattle.centre_ledger.specs.declared.taking.CentreAnswer.{CentreAnswer}
 use Rattle.centre_ledger.specs.declared.taking.CentreAnswer.TheVariants as answer
 use Rattle.centre_ledger.specs.Acts as acts
 use Rattle.centre_ledger.specs.Acts.{CentreAct, in_books, left_act}
@@ -45,7 +42,7 @@ module _ {K S R : Type 0} (n : Ghosts K S (Unit {0}) Row R) (b : Books) (sound :
   call_fits (call.Balance c) ranged bytes = commit_says _ _ _ (acts.balance_act c.customer b) (by (acts.balance_act c.customer b) (sound_acts.balanced c.customer))
   call_fits (call.Take c) ranged bytes = commit_says _ _ _ (acts.take_act c.bytes b) (by (acts.take_act c.bytes b) (sound_acts.taken c.bytes bytes))
 
--- == whose the commit is ==
+-- == the node of each commit ==
 
 call_own : (c : CentreCall) (b : Books) → IsOfNode Centre (centre_act c b)
 call_own (call.Register c) b = commit_says _ _ _ (acts.register_act c.device c.origin c.key b) (register_own c.device c.origin c.key (device_at b c.device))
@@ -55,7 +52,7 @@ call_own (call.Flag c) b = commit_says _ _ _ (acts.flag_act c.customer c.suspend
 call_own (call.Balance c) b = commit_says _ _ _ (acts.balance_act c.customer b) (left_own c.customer (left_in b c.customer) (customer_at b c.customer))
 call_own (call.Take c) b = commit_says _ _ _ (acts.take_act c.bytes b) (take_own c.bytes (in_books b) (read c.bytes))
 
--- == how they are told ==
+-- == how they are reported ==
 
 pub call_of : (c : CentreCall) → IsCallOf Centre (centre_call_event c)
 call_of (call.Register c) = record { on = refl; at = refl; no_switch = λ e. cc; no_cut = λ calls keep byte e. cc }

@@ -1,8 +1,6 @@
 -- A node that an event leaves as it was is charged with nothing.
 use Rattle.std.proofs.Common.{◌≡◌, false, sym, ◌∙◌, true≢false, arith}
-use Rattle.bench_base.specs.declared.words.Node.{Node}
-use Rattle.bench_base.specs.declared.events.Event.{Event}
-use Rattle.bench_base.specs.declared.events.Reply.{Reply}
+use Rattle.bench_base.specs.declared.{words.Node.Node, events.Event.Event, events.Reply.Reply}
 use Rattle.bench_base.specs.Events.{calls_of}
 use Rattle.bench_base.specs.Replies.{tells_power, tells_fault}
 use Rattle.nv_model.specs.Meters.{Meters}

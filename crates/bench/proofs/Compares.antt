@@ -1,11 +1,7 @@
 -- What the bench answers where it compares a device with the centre.
 use Rattle.std.proofs.Common.{◌≡◌, inl, inr, ℕ, ◌+◌, Option, Some, None, Bool, true, false, ◌↔◌, refl, sym, ◌∙◌, ap, true≢false, if◌then◌else◌}
-use Rattle.bench_base.specs.declared.words.Kind.{Kind}
-use Rattle.bench_base.specs.declared.words.Node.TheVariants.{Device, Centre}
-use Rattle.bench_base.specs.declared.refusals.CentreRefusal.{CentreRefusal}
-use Rattle.bench_base.specs.declared.refusals.DevRefusal.TheVariants.{Blank}
+use Rattle.bench_base.specs.declared.{words.Kind.Kind, words.Node.TheVariants.Device, words.Node.TheVariants.Centre, refusals.CentreRefusal.CentreRefusal, refusals.DevRefusal.TheVariants.Blank, events.Reply.Reply}
 use Rattle.bench_base.specs.declared.events.Event.TheVariants as ev
-use Rattle.bench_base.specs.declared.events.Reply.{Reply}
 use Rattle.bench_base.specs.declared.events.Reply.TheVariants as r
 use Rattle.bench_base.specs.Replies.{on_after}
 use Rattle.node_acts.specs.declared.act.Act.TheVariants.{Refuse, Tell, Commits}

@@ -1,13 +1,10 @@
--- The acts of a device's calls: what they change, and how they are told.
+-- The acts of a device's calls: what they change, and how they are reported.
 use Rattle.std.proofs.Common.{rules, ◌≡◌, ◌≢◌, ℕ, ℤ, ◌+◌, ◌==◌, ◌&&◌, List, Option, Some, None, Result, Ok, Err, inl, inr, refl, subst, arith}
 use Rattle.std.specs.Prelude.{IfSome}
-use Rattle.bench_base.specs.declared.words.Node.TheVariants.{Device}
-use Rattle.bench_base.specs.declared.words.Kind.{Kind}
+use Rattle.bench_base.specs.declared.{words.Node.TheVariants.Device, words.Kind.Kind, refusals.DevRefusal.DevRefusal, refusals.Unread.Unread}
 use Rattle.bench_base.specs.declared.words.Kind.TheVariants as kinds
 use Rattle.bench_base.specs.Kinds.{is_granted}
-use Rattle.bench_base.specs.declared.refusals.DevRefusal.{DevRefusal}
 use Rattle.bench_base.specs.declared.refusals.DevRefusal.TheVariants as no
-use Rattle.bench_base.specs.declared.refusals.Unread.{Unread}
 use Rattle.bench_base.specs.declared.events.Event.TheVariants as ev
 use Rattle.bench_base.specs.declared.events.Reply.TheVariants as r
 use Rattle.bench_base.specs.Rules.{Rules, todays_rules}
@@ -18,23 +15,17 @@ use Rattle.node_acts.proofs.OfCommits.{commit_says}
 use Rattle.psd_state.proofs.Released.{commit_released}
 use Rattle.node_storage.specs.declared.node.Node.{Ghosts}
 use Rattle.node_storage.specs.Shown.{IsFitting}
-use Rattle.psd_wire.specs.declared.message.DebitMsg.{DebitMsg}
-use Rattle.psd_wire.specs.declared.message.ReplyMsg.{ReplyMsg}
-use Rattle.psd_wire.specs.declared.message.Request.{Request}
-use Rattle.psd_wire.specs.declared.message.Message.{Message}
+use Rattle.psd_wire.specs.declared.{message.DebitMsg.DebitMsg, message.ReplyMsg.ReplyMsg, message.Request.Request, message.Message.Message}
 use Rattle.psd_wire.specs.declared.message.Message.TheVariants as m
 use Rattle.psd_wire.specs.Grammar.{read}
 use Rattle.psd_state.specs.State.{State}
 use Rattle.psd_state.specs.Acts.{DeviceAct, make_act, franked_act, debit_act, asked_act, ask_act, applied_act, reply_rows, reply_act, message_act, take_act, told_act, resend_act, ack_act, status_act}
 use Rattle.psd_state.specs.Answers.{debit_answer, new_answer, piece_rows, debit_rows, frozen_kind, repeated, unless, unless_again, ask_answer, ask_rows, waiting_kind, apply_answer, apply_rows, after_apply, resend_answer, done_answer}
 use Rattle.psd_state.specs.Answers as answers
-use Rattle.psd_state.specs.declared.debiting.Debited.{Debited}
-use Rattle.psd_state.specs.declared.debiting.Debited.TheVariants.{New, Again}
-use Rattle.psd_state.specs.declared.acts.Taken.{Taken}
+use Rattle.psd_state.specs.declared.{debiting.Debited.Debited, debiting.Debited.TheVariants.New, debiting.Debited.TheVariants.Again, acts.Taken.Taken}
 use Rattle.psd_state.specs.declared.acts.Taken.TheVariants as taken_as
 use Rattle.ledger_moves.specs.Moves.{debit_by}
-use Rattle.bench_abstraction.specs.declared.calls.DeviceCall.{DeviceCall}
-use Rattle.bench_abstraction.specs.declared.calls.DeviceCall.TheVariants.{Make, Debit, Ask, Resend, Ack, Status, Take}
+use Rattle.bench_abstraction.specs.declared.{calls.DeviceCall.DeviceCall, calls.DeviceCall.TheVariants.Make, calls.DeviceCall.TheVariants.Debit, calls.DeviceCall.TheVariants.Ask, calls.DeviceCall.TheVariants.Resend, calls.DeviceCall.TheVariants.Ack, calls.DeviceCall.TheVariants.Status, calls.DeviceCall.TheVariants.Take}
 use Rattle.bench_abstraction.specs.Devices as views
 use Rattle.bench_abstraction.specs.Devices.{device_act}
 use Rattle.bench_abstraction.proofs.Plans.{call_own}
@@ -183,7 +174,7 @@ status_free : (today : ℤ) (state : Option State) → CommitsNone (status_act t
 status_free today None = tt
 status_free today (Some s) = tt
 
--- == how they are told ==
+-- == how they are reported ==
 
 pub call_of : (d : ℕ) (call : DeviceCall) → IsCallOf (Device d) (device_call_event d call)
 call_of d (Make c) = record { on = refl; at = refl; no_switch = λ e. cc; no_cut = λ calls keep byte e. cc }

@@ -1,8 +1,7 @@
 -- What holds of each node of a bench, whatever its kind.
 use Rattle.std.proofs.Common.{◌≡◌, ◌≢◌, ℕ, ◌+◌, Some, refl, sym, ◌∙◌, ap, subst, ⊎_elim, length}
 use Rattle.std.specs.Prelude.{slice_get}
-use Rattle.bench_base.specs.declared.words.Node.{Node}
-use Rattle.bench_base.specs.declared.words.Node.TheVariants.{Device, Centre, Host, Verifier}
+use Rattle.bench_base.specs.declared.{words.Node.Node, words.Node.TheVariants.Device, words.Node.TheVariants.Centre, words.Node.TheVariants.Host, words.Node.TheVariants.Verifier}
 use Rattle.bench.specs.Benches.{Bench, Nodes, OneKind, OfName, OfState, OfChange, By, Of, At, devices, centre, host, verifier, BenchOf}
 use Rattle.bench.proofs.Events.{same_or_not}
 use Rattle.bench.proofs.Sets.{same_some}
@@ -62,7 +61,7 @@ module _ (n : Nodes) (m : Node) (old new : BenchOf n) (rest : OthersRest m old n
       (λ (differs : j ≢ m). stays P j differs (each j differs))
       (same_or_not j m)
 
--- a bench all whose nodes are as they were
+-- a bench in which every node is as it was
 pub record AllRest {D C H V : Type 0} (old new : Bench D C H V) : Type 0 where
   pub devices : new.devices ≡ old.devices
   pub centre : new.centre ≡ old.centre

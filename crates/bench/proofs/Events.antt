@@ -1,30 +1,21 @@
--- What an event of a node is, how it is given, and whom a failure is told of.
+-- What an event of a node is, how it is given, and which node the report of a failure names.
 use Rattle.std.proofs.Common.{◌≡◌, ◌≢◌, ◌⊎◌, inl, inr, ⊎_elim, ℕ, ℤ, List, Option, Some, None, true, false, refl, sym, ◌∙◌, ap, subst, true≢false}
 use Rattle.std.specs.Prelude.{slice_get}
 use Rattle.std.proofs.lemmas.Bool.{cases_eq, false_from_ne_true}
 use Rattle.std.proofs.lemmas.Option.{same_Some}
-use Rattle.bench_base.specs.declared.words.Node.{Node}
-use Rattle.bench_base.specs.declared.words.Node.TheVariants.{Device, Centre, Host, Verifier}
-use Rattle.bench_base.specs.declared.events.Event.{Event}
+use Rattle.bench_base.specs.declared.{words.Node.Node, words.Node.TheVariants.Device, words.Node.TheVariants.Centre, words.Node.TheVariants.Host, words.Node.TheVariants.Verifier, events.Event.Event, events.Reply.Reply}
 use Rattle.bench_base.specs.declared.events.Event.TheVariants as ev
-use Rattle.bench_base.specs.declared.events.Reply.{Reply}
 use Rattle.bench_base.specs.declared.events.Reply.TheVariants as r
 use Rattle.bench_base.proofs.Facts.{same_node_true}
 use Rattle.bench_base.specs.Events.{node_for, needs_day, may_commit, day_after, IsAt, IsWholeEvent}
 use Rattle.bench_base.specs.Replies.{tells_power, tells_fault, MayGet, MayFailAt}
-use Rattle.node_acts.specs.declared.asked.Asked.{Asked}
-use Rattle.node_acts.specs.declared.asked.Asked.TheVariants.{On, Off, Cut, Call}
-use Rattle.bench_abstraction.specs.declared.calls.DeviceCall.{DeviceCall}
+use Rattle.node_acts.specs.declared.{asked.Asked.Asked, asked.Asked.TheVariants.On, asked.Asked.TheVariants.Off, asked.Asked.TheVariants.Cut, asked.Asked.TheVariants.Call}
+use Rattle.bench_abstraction.specs.declared.{calls.DeviceCall.DeviceCall, calls.CentreCall.CentreCall, calls.HostCall.HostCall, calls.VerifierCall.VerifierCall, routing.Routed.Routed, routing.OfDay.OfDay}
 use Rattle.bench_abstraction.specs.declared.calls.DeviceCall.TheVariants as device
-use Rattle.bench_abstraction.specs.declared.calls.CentreCall.{CentreCall}
 use Rattle.bench_abstraction.specs.declared.calls.CentreCall.TheVariants as call
-use Rattle.bench_abstraction.specs.declared.calls.HostCall.{HostCall}
 use Rattle.bench_abstraction.specs.declared.calls.HostCall.TheVariants as host
-use Rattle.bench_abstraction.specs.declared.calls.VerifierCall.{VerifierCall}
 use Rattle.bench_abstraction.specs.declared.calls.VerifierCall.TheVariants as verifier
-use Rattle.bench_abstraction.specs.declared.routing.Routed.{Routed}
 use Rattle.bench_abstraction.specs.declared.routing.Routed.TheVariants as route
-use Rattle.bench_abstraction.specs.declared.routing.OfDay.{OfDay}
 use Rattle.bench_abstraction.specs.declared.routing.OfDay.TheVariants as of_day
 use Rattle.bench_abstraction.specs.Tariff.{Quote}
 use Rattle.bench_abstraction.specs.Routing.{routed, taker, as_given, as_given_by, as_scanned_by, IsPricedAsked}
@@ -199,7 +190,7 @@ module _ (pool : List (List ℕ)) (quote : Quote) where
     message = λ n k bytes there whole. (whole.0, whole.1);
   })
 
--- what holds of each call of which P holds, and of all else, holds of what is asked
+-- what holds of `On`, `Off`, each `Cut`, and each call that meets P holds of what is asked
 pub of_call : {C : Type 0} {P : C → Type 0} (Q : Asked C → Type 0) → Q On → Q Off → ((calls keep byte : ℕ) → Q (Cut calls keep byte)) → ((c : C) → P c → Q (Call c)) → (asked : Asked C) → OfCall P asked → Q asked
 of_call Q on off cut call On of = on
 of_call Q on off cut call Off of = off
@@ -264,7 +255,7 @@ of_verifier asked = asked_of Verifier verifier_call_event verifier_call_of asked
 pub node_is : (m : Node) (e : Event) (k : Node) → IsOfNode m e → node_for e ≡ Some k → m ≡ k
 node_is m e k of is = same_Some _ _ (sym of.node ∙ is)
 
--- == whom a failure is told of ==
+-- == which node the report of a failure names ==
 
 power_at : (e : Event) (k : Node) (reply : Reply) → MayGet e reply → tells_power k reply ≡ true → MayFailAt e k
 power_at e k (r.Power n) may is = subst (MayFailAt e) (same_node_true n k is) may
@@ -280,7 +271,7 @@ fails_there m e k of may = ⊎_elim
     (λ commits. subst (λ (o : Option Node). IsAt o k) of.node commits.at)
     may
 
--- the reply to an event of node m tells nothing of a failure of another node
+-- the reply to an event of node m reports no failure of another node
 pub untold : (m : Node) (e : Event) (k : Node) (reply : Reply) → IsOfNode m e → MayGet e reply → k ≢ m → (tells_power k reply ≡ false) × (tells_fault k reply ≡ false)
 untold m e k reply of may differs = (
   false_from_ne_true _ (λ is. differs (sym (fails_there m e k of (power_at e k reply may is)))),

@@ -1,13 +1,10 @@
--- The acts of the host's calls: what they change, how they are told, and what is printed of them.
+-- The acts of the host's calls: what they change, how they are reported, and what is printed of them.
 use Rattle.std.proofs.Common.{◌≢◌, ℕ, List, Option, Some, None, refl, inr, ap, subst, arith}
 use Rattle.std.proofs.lemmas.Option.{same_Some}
-use Rattle.bench_base.specs.declared.words.Node.TheVariants.{Host}
-use Rattle.bench_base.specs.declared.refusals.HostRefusal.{HostRefusal}
+use Rattle.bench_base.specs.declared.{words.Node.TheVariants.Host, refusals.HostRefusal.HostRefusal}
 use Rattle.bench_base.specs.declared.events.Event.TheVariants as ev
 use Rattle.bench_base.specs.declared.events.Reply.TheVariants as r
-use Rattle.node_acts.specs.declared.act.Act.TheVariants.{Refuse, Tell, Commits}
-use Rattle.node_acts.specs.declared.said.Said.{Said}
-use Rattle.node_acts.specs.declared.said.Printed.{Printed as Print}
+use Rattle.node_acts.specs.declared.{act.Act.TheVariants.Refuse, act.Act.TheVariants.Tell, act.Act.TheVariants.Commits, said.Said.Said, said.Printed.Printed as Print}
 use Rattle.node_acts.specs.Acts.{TellsOf}
 use Rattle.node_acts.proofs.OfCommits.{of_commit, commit_says}
 use Rattle.node_storage.specs.declared.node.Node.{Ghosts}
@@ -49,7 +46,7 @@ module _ {K S R : Type 0} (n : Ghosts K S (Unit {0}) JobRow R) (rows : Jobs) (so
   call_fits (call.Close c) ranged = commit_says _ _ _ (acts.close_act c.job rows) (by (acts.close_act c.job rows) (sound_acts.closed c.job))
   call_fits (call.Take c) ranged = commit_says _ _ _ (acts.take_act c.bytes rows) (by (acts.take_act c.bytes rows) (sound_acts.taken c.bytes))
 
--- == how they are told ==
+-- == how they are reported ==
 
 pub call_of : (c : HostCall) → IsCallOf Host (host_call_event c)
 call_of (call.Order c) = record { on = refl; at = refl; no_switch = λ e. cc; no_cut = λ calls keep byte e. cc }

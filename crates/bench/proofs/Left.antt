@@ -1,4 +1,4 @@
--- Where nothing is committed, the storages that a stop leaves represent the ledger so far.
+-- If nothing is committed, the storages that a stop leaves represent the ledger so far.
 use Rattle.std.proofs.Common.{◌∷◌, refl, ap}
 use Rattle.std.specs.Prelude.{length, ◌≡◌}
 use Rattle.bench_base.specs.declared.words.Node.{Node}

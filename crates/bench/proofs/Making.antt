@@ -80,7 +80,7 @@ get_middle : {X : Type 0} (xs ys : List X) (x : X) → slice_get (xs ++ x ∷ ys
 get_middle [] ys x = refl
 get_middle (z ∷ xs) ys x = get_middle xs ys x
 
--- an element that is moved stands in the first list
+-- an element that is moved is in the first list
 pub moved_from : {X Y : Type 0} (P : X → Y → Type 0) (k : ℕ) (whole left left' : List X) (made : List Y) (x : X) → Moved P k whole left made → left ≡ left' ++ x ∷ []
     → slice_get whole (length left') ≡ Some x
 moved_from P k whole left left' made x moved taken =

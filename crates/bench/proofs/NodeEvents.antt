@@ -3,12 +3,7 @@ use Rattle.std.proofs.Common.{◌≡◌, ◌≢◌, ◌↔◌, ℕ, ℤ, ◌+◌
 use Rattle.std.specs.Prelude.{slice_get, slice_set, IfSome}
 use Rattle.std.proofs.lemmas.Option.{slice_get_within, same_Some}
 use Rattle.std.proofs.lemmas.List.{length-set}
-use Rattle.bench_base.specs.declared.words.Node.{Node}
-use Rattle.bench_base.specs.declared.words.Node.TheVariants.{Device, Centre, Host, Verifier}
-use Rattle.bench_base.specs.declared.ledger.Commit.{Commit}
-use Rattle.bench_base.specs.declared.ledger.Entry.{Entry}
-use Rattle.bench_base.specs.declared.events.Event.{Event}
-use Rattle.bench_base.specs.declared.events.Reply.{Reply}
+use Rattle.bench_base.specs.declared.{words.Node.Node, words.Node.TheVariants.Device, words.Node.TheVariants.Centre, words.Node.TheVariants.Host, words.Node.TheVariants.Verifier, ledger.Commit.Commit, ledger.Entry.Entry, events.Event.Event, events.Reply.Reply}
 use Rattle.bench_base.specs.declared.events.Reply.TheVariants as r
 use Rattle.bench_base.specs.Rules.{todays_rules}
 use Rattle.bench_base.specs.Plans.{Plan}
@@ -148,7 +143,7 @@ module _ (n : Nodes) (old new : BenchOf n) where
 
 -- == what it does to the bench ==
 
--- a reply of a failure tells of one
+-- a reply of a failure reports a failure
 not_failed : {P : Type 0} (reply failure : Reply) → reply ≡ failure → tells_failure failure ≡ true → tells_failure reply ≡ false → P
 not_failed reply failure is tells fine = absurd (true≢false (sym tells ∙ sym (ap tells_failure is) ∙ fine))
 

@@ -1,15 +1,9 @@
 -- The message that an event sends is the one among its entries.
 use Rattle.std.proofs.Common.{◌≡◌, inl, inr, ℕ, List, [], ◌∷◌, ◌++◌, Option, Some, None, false, true≢false, refl, sym, ◌∙◌, ap, arith}
-use Rattle.bench_base.specs.declared.words.Node.{Node}
-use Rattle.bench_base.specs.declared.words.Node.TheVariants.{Device, Centre}
-use Rattle.bench_base.specs.declared.ledger.Commit.{Commit}
-use Rattle.bench_base.specs.declared.ledger.Entry.{Entry}
+use Rattle.bench_base.specs.declared.{words.Node.Node, words.Node.TheVariants.Device, words.Node.TheVariants.Centre, ledger.Commit.Commit, ledger.Entry.Entry, events.Event.Event, events.Reply.Reply, questions.Report.Report}
 use Rattle.bench_base.specs.declared.ledger.Entry.TheVariants as entry
-use Rattle.bench_base.specs.declared.events.Event.{Event}
 use Rattle.bench_base.specs.declared.events.Event.TheVariants as ev
-use Rattle.bench_base.specs.declared.events.Reply.{Reply}
 use Rattle.bench_base.specs.declared.events.Reply.TheVariants as r
-use Rattle.bench_base.specs.declared.questions.Report.{Report}
 use Rattle.bench_base.specs.declared.questions.Report.TheVariants as report
 use Rattle.bench_base.specs.Ledger.{Ledger}
 use Rattle.bench_base.specs.Replies.{ReplyClass, Did, Refused, Armed, CameOn, WentOff, LostPower, Faulted, WasDamaged, PrinterFailed, RatesFailed, class_of, report_of, MayGet, Hands}
@@ -47,7 +41,7 @@ few_notes (z ∷ y ∷ x ∷ w ∷ more) few = absurd (omega (arith, few.0))
 
 -- == by what a reply alone says ==
 
--- beside a commit nothing, a mark, or a mark that goes to the printer is told: none of them is a message
+-- beside a commit, an event reports nothing, a mark, or a mark for the printer: none of them is a message
 none_beside : (made : Option Commit) → notes_in (in_order ([] ++ with_commit made [])) ≡ []
 none_beside None = refl
 none_beside (Some c) = refl

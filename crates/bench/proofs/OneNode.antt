@@ -3,10 +3,8 @@
 use Rattle.std.proofs.Common.{◌≡◌, inl, inr, ⊎_elim, ℕ, ℤ, ◌+◌, List, [], ◌∷◌, ◌++◌, Option, Some, None, Bool, true, false, refl, sym, ◌∙◌, ap, subst, true≢false, ◌==◌, if◌then◌else◌}
 use Rattle.std.specs.Prelude.{option_map, IfSome}
 use Rattle.std.proofs.lemmas.Option.{same_Some}
-use Rattle.bench_base.specs.declared.words.Node.{Node}
-use Rattle.bench_base.specs.declared.ledger.Commit.{Commit}
+use Rattle.bench_base.specs.declared.{words.Node.Node, ledger.Commit.Commit, events.Event.Event}
 use Rattle.bench_base.specs.declared.ledger.Entry.TheVariants as entry
-use Rattle.bench_base.specs.declared.events.Event.{Event}
 use Rattle.bench_base.specs.declared.events.Reply.TheVariants as r
 use Rattle.bench_base.specs.Replies.{ReplyClass, Did, Refused, Armed, CameOn, WentOff, LostPower, Faulted, WasDamaged, PrinterFailed, RatesFailed, class_of, is_failure, tells_failure}
 use Rattle.bench_base.specs.Plans.{Plan}
@@ -52,7 +50,7 @@ next_up {S} n (Some s) k v = by (k == n.count v.state + 1)
     by true = refl
     by false = refl
 
--- a reply that tells of no failure leaves no commit open
+-- a reply that reports no failure leaves no commit open
 next_told : {S X : Type 0} (n : Counting S X) (t : ReplyClass) (made : Option (Commit × S)) (v : View S) → is_failure t ≡ false → v.next ≡ None → (view_told n t made v).next ≡ None
 next_told n Did None v fine none = none
 next_told n Did (Some x) v fine none = none

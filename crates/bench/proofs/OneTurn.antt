@@ -2,10 +2,7 @@
 use Rattle.std.proofs.Common.{◌≡◌, ◌≢◌, inl, ⊎_elim, ℕ, zero, suc, List, [], ◌∷◌, ◌++◌, length, Option, Some, None, true, false, ◌↔◌, refl, sym, ◌∙◌, ap, subst, arith}
 use Rattle.std.specs.Prelude.{◌≤◌, option_map, Result, Ok, Err, IfOk}
 use Rattle.std.proofs.lemmas.Option.{slice_get_within}
-use Rattle.bench_base.specs.declared.words.Node.{Node}
-use Rattle.bench_base.specs.declared.words.Node.TheVariants.{Device, Centre, Host, Verifier}
-use Rattle.bench_base.specs.declared.ledger.Commit.{Commit}
-use Rattle.bench_base.specs.declared.events.Event.{Event}
+use Rattle.bench_base.specs.declared.{words.Node.Node, words.Node.TheVariants.Device, words.Node.TheVariants.Centre, words.Node.TheVariants.Host, words.Node.TheVariants.Verifier, ledger.Commit.Commit, events.Event.Event}
 use Rattle.bench_base.specs.declared.events.Event.TheVariants as ev
 use Rattle.bench_base.specs.declared.events.Reply.TheVariants as r
 use Rattle.bench_base.specs.Events.{node_for, may_commit, IsWholeEvent}
@@ -50,7 +47,7 @@ use Rattle.bench.proofs.Over.{none_day}
 use Rattle.bench.proofs.Charges.{rests_charged}
 use Rattle.bench.proofs.Stops.{stop_history}
 
--- a node of which the same is seen has no more open commits
+-- a node that is seen as before has no more open commits
 still_closed : {S : Type 0} (k : Node) (seen : List Commit → S) (H L : Ledger) → view_in k seen L ≡ view_in k seen H → torn_of k H ≡ None → torn_of k L ≡ None
 still_closed {S} k seen H L same none =
     none_mapped (λ c. seen (c ∷ counted L)) (torn_of k L) (ap (λ (w : View S). w.next) same ∙ ap (λ (o : Option Commit). option_map (λ c. seen (c ∷ counted H)) o) none)
@@ -91,7 +88,7 @@ module _ (n : Nodes) where
 
 module _ (n : Nodes) (m : Node) (e x : Event) (turn : Turn) (old new : BenchOf n)
     (before now : Outside) where
-  -- what node m did in event e, which is x where it is given, whatever the storages tell
+  -- what node m did in event e, given to it as x, whether or not the storages expose their contents
   pub record NodeDid : Type 0 where
     pub given : as_given old.messages e ≡ x
     pub of : IsOfNode m x
@@ -115,7 +112,7 @@ module _ (n : Nodes) (m : Node) (e x : Event) (turn : Turn) (old new : BenchOf n
     pub found : n.storage.tells → x ≡ ev.On m → has_read turn.reply ≡ true → At n (λ o i d s t. (turn.reply ≡ r.Damaged i) ↔ HasDamage o.ghosts d t) old new m
 
   module _ (did : NodeDid) where
-    -- == whatever the storages tell ==
+    -- == whether or not the storages expose their contents ==
 
     abbrev ChargedIs : OfChange n.Storage
     ChargedIs o i d s t = Charged i x turn.reply (meters_of o.ghosts n.storage s) (meters_of o.ghosts n.storage t)
@@ -219,7 +216,7 @@ module _ (n : Nodes) (m : Node) (e x : Event) (turn : Turn) (old new : BenchOf n
 
   -- == by the ledger ==
 
-  -- what node m did by a ledger for which the bench stood, and that each other node is seen as before
+  -- what node m did by a ledger that the bench represented, while each other node is seen as before
   pub record NodeDidOn (τ : Tariff) (L : Ledger) : Type 0 where
     pub moves : Moves τ todays_rules L e [] turn.reply
     pub entries : turn.entries ≡ in_order (after (plan τ todays_rules L e []) turn.reply [])
@@ -241,7 +238,7 @@ module _ (n : Nodes) (m : Node) (e x : Event) (turn : Turn) (old new : BenchOf n
     abbrev StandsIs : Ledger → OfState n.Storage
     StandsIs K o i d s = node.Stands o.ghosts n.storage d (view_in i (o.kind.seen d) K) s
 
-    -- a node of which the same is seen represents it
+    -- a node that K shows as L does represents K
     stands_same : (K : Ledger) (j : Node) → SeenSame n L K j → Of n (StandsIs K) old j
     stands_same K j same = of_by n (λ o i d. view_in i (o.kind.seen d) K ≡ view_in i (o.kind.seen d) L) (StandsIs L) (StandsIs K) old
         (λ o i d s is st. subst (λ (w : View o.ghosts.Seen). node.Stands o.ghosts n.storage d w s) (sym is) st) j same (stands.nodes j)
@@ -309,7 +306,7 @@ module _ (n : Nodes) (m : Node) (e x : Event) (turn : Turn) (old new : BenchOf n
       printed = on.printed;
     }
 
--- what is told of a turn is what it tells
+-- a report that equals a turn has the steps of that turn
 pub told_steps : (n : Nodes) (e : Event) (text : List ℕ) (told turn : Turn) (old new : BenchOf n) (before now : Outside)
     → told ≡ turn → Steps n e text turn old new before now → Steps n e text told old new before now
 told_steps n e text told turn old new before now is steps = subst (λ (t : Turn). Steps n e text t old new before now) (sym is) steps

@@ -1,13 +1,9 @@
 -- Events that leave the nodes as they are.
 use Rattle.std.proofs.Common.{◌≡◌, ◌≢◌, inl, ℕ, ℤ, List, [], ◌∷◌, ◌++◌, Option, Some, None, true, false, ◌↔◌, refl, sym, ◌∙◌, ap, subst, append-nil, true≢false}
 use Rattle.std.specs.Prelude.{IsSome}
-use Rattle.bench_base.specs.declared.words.Node.{Node}
-use Rattle.bench_base.specs.declared.ledger.Commit.{Commit}
-use Rattle.bench_base.specs.declared.ledger.Entry.{Entry}
+use Rattle.bench_base.specs.declared.{words.Node.Node, ledger.Commit.Commit, ledger.Entry.Entry, events.Event.Event, events.Reply.Reply}
 use Rattle.bench_base.specs.declared.ledger.Entry.TheVariants as entry
-use Rattle.bench_base.specs.declared.events.Event.{Event}
 use Rattle.bench_base.specs.declared.events.Event.TheVariants as ev
-use Rattle.bench_base.specs.declared.events.Reply.{Reply}
 use Rattle.bench_base.specs.declared.events.Reply.TheVariants as r
 use Rattle.bench_base.specs.Events.{needs_day, node_for, day_after, IsWholeEvent}
 use Rattle.bench_base.specs.Replies.{tells_power, tells_fault, has_read, is_refusal, MayGet}
@@ -56,7 +52,7 @@ module _ (n : Nodes) (e x : Event) (text : List ℕ)
   abbrev turn : Turn
   turn = turn_of reply told
 
-  -- by a ledger for which the bench stands: the reply is a move, which commits nothing and tells this
+  -- by a ledger that the bench represents: the reply is a move that commits nothing and adds these entries
   pub record QuietOn (τ : Tariff) (L : Ledger) : Type 0 where
     pub moves : Moves τ todays_rules L e text reply
     pub silent : (plan τ todays_rules L e text).commit ≡ None
@@ -79,7 +75,7 @@ module _ (n : Nodes) (e x : Event) (text : List ℕ)
   abbrev pub SwitchesIs : OfState n.Storage
   SwitchesIs o i d s = IsSome old.day → node_for x ≡ Some i → ((k : ℕ) → reply ≢ r.NoMessage k) → Switches i x reply (o.ghosts.is_on s) (o.ghosts.is_on s)
 
-  -- whatever they tell; the event is x where it is given
+  -- whether or not the storages expose their contents; the event is given as x
   pub record QuietAlone : Type 0 where
     pub given : as_given old.messages e ≡ x
     pub power : (i : Node) → tells_power i reply ≡ false
@@ -140,7 +136,7 @@ module _ (n : Nodes) (e x : Event) (text : List ℕ)
       damaged = λ m on read. absurd (true≢false (sym read ∙ shown.not_read));
     }
 
-    -- == whatever they tell ==
+    -- == whether or not the storages expose their contents ==
 
     leaves : (m : Node) → At n (λ o i d. Leaves o.ghosts n.storage n.fuse i x old.day reply) old new m
     leaves m = still n old new rest (λ o i d. Leaves o.ghosts n.storage n.fuse i x old.day reply) m

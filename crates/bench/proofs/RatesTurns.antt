@@ -1,11 +1,9 @@
 -- What an event does to the bench that reads rates.
 use Rattle.std.proofs.Common.{◌≡◌, ◌≢◌, inl, inr, ℕ, ℤ, List, [], ◌∷◌, ◌++◌, Option, Some, None, true, false, Result, Ok, Err, refl, sym, ◌∙◌, ap, subst, true≢false}
 use Rattle.std.specs.Prelude.{◌≤◌, is_some}
-use Rattle.bench_base.specs.declared.words.Node.{Node}
-use Rattle.bench_base.specs.declared.ledger.Entry.{Entry}
+use Rattle.bench_base.specs.declared.{words.Node.Node, ledger.Entry.Entry, events.Reply.Reply}
 use Rattle.bench_base.specs.declared.ledger.Entry.TheVariants as entry
 use Rattle.bench_base.specs.declared.events.Event.TheVariants as ev
-use Rattle.bench_base.specs.declared.events.Reply.{Reply}
 use Rattle.bench_base.specs.declared.events.Reply.TheVariants as r
 use Rattle.bench_base.specs.Plans.{Plan}
 use Rattle.bench_base.specs.Replies.{tells_power, tells_fault, has_read, is_refusal, MayGet}
@@ -36,7 +34,7 @@ use Rattle.bench.proofs.EachKind.{of_all, of_with}
 use Rattle.bench.proofs.Quiet.{QuietOn, SwitchesIs, asking, quiet}
 use Rattle.bench.proofs.Unprinted.{IsUnprinted}
 
--- == what is told of a text ==
+-- == what is reported of a text ==
 
 turn_is : (text : List ℕ) (x : Result RateTable RatesFail) → rates_turn text x ≡ turn_of (plan_of text x).reply (plan_of text x).after
 turn_is text (Ok x) = refl
@@ -45,7 +43,7 @@ turn_is text (Err fail.Toml) = refl
 turn_is text (Err fail.Form) = refl
 turn_is text (Err (fail.Memory x)) = refl
 
--- what holds of each such reply, with what it tells
+-- what holds of each such reply and of the entries that are reported with it
 record Told (text : List ℕ) (reply : Reply) (tells : List Entry) : Type 0 where
   gets : MayGet ev.Rates reply
   says : Adds ev.Rates reply (in_order tells)
@@ -145,7 +143,7 @@ module _ (n : Nodes) (text : List ℕ) (turn : Turn) (today : ℤ)
     later = later;
   }
 
-  -- by what is told of it
+  -- by what is reported of the text
   by_told : (reply : Reply) (tells : List Entry) → turn ≡ turn_of reply tells → Told text reply tells → ReadsText text turn old.rates kept before.rates now.rates → (is_refusal reply ≡ true → (new ≡ old) × (tells ≡ []))
       → ((τ : Tariff) (L : Ledger) → IsOfTexts τ → History τ editions L → Stands n old L → n.storage.tells → QuietOn n ev.Rates ev.Rates text reply tells old new before now τ L)
       → Steps n ev.Rates text (turn_of reply tells) old new before now
@@ -182,7 +180,7 @@ module _ (n : Nodes) (text : List ℕ) (turn : Turn) (today : ℤ)
   keeps_of L keeps (Err fail.Form) is = keeps
   keeps_of L keeps (Err (fail.Memory y)) is = keeps
 
-  -- the bench represents the ledger with what is told
+  -- the bench represents the ledger with the reported entries
   stands_of : (L : Ledger) (x : Result RateTable RatesFail) → kept ≡ rates_after old.rates x → answer text ≡ x → Stands n old L → Stands n new ((plan_of text x).after ++ L)
   stands_of L x kept_is is stands = by x kept_is (subst (λ (o : Option RateTable). Keeps (rates_in ((plan_of text x).after ++ L)) o) (sym kept_is) (keeps_of L stands.day.rates x is))
     where

@@ -1,4 +1,4 @@
--- Lists of which one element was set.
+-- Lists after one element was set.
 use Rattle.std.proofs.Common.{◌≡◌, ◌≢◌, ℕ, zero, suc, ◌<◌, List, [], ◌∷◌, length, Option, Some, refl, ◌∙◌, ap, arith}
 use Rattle.std.specs.Prelude.{slice_get, slice_set}
 use Rattle.std.proofs.lemmas.Option.{slice_get-get_or}
@@ -14,7 +14,7 @@ get_set_other (x ∷ xs) zero v (suc j) differs = refl
 get_set_other (x ∷ xs) (suc i) v zero differs = refl
 get_set_other (x ∷ xs) (suc i) v (suc j) differs = get_set_other xs i v j (λ is. differs (ap (λ (k : ℕ). suc k) is))
 
--- what stands at a place is put there again
+-- setting a place to the element that is there already changes nothing
 pub set_there : {X : Type 0} (xs : List X) (i : ℕ) (v : X) → slice_get xs i ≡ Some v → slice_set xs i v ≡ xs
 set_there [] i v is = refl
 set_there {X} (x ∷ xs) zero v is = let same : v ≡ x = cc in ap (λ (y : X). y ∷ xs) same

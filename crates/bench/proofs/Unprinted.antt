@@ -1,9 +1,7 @@
 -- What prints nothing.
 use Rattle.std.proofs.Common.{◌≡◌, ◌≢◌, ℕ, ℤ, List, Option, None, ◌≤◌, refl, subst, sym, ap, arith}
-use Rattle.bench_base.specs.declared.words.Node.{Node}
-use Rattle.bench_base.specs.declared.events.Event.{Event}
+use Rattle.bench_base.specs.declared.{words.Node.Node, events.Event.Event, events.Reply.Reply}
 use Rattle.bench_base.specs.declared.events.Event.TheVariants as ev
-use Rattle.bench_base.specs.declared.events.Reply.{Reply}
 use Rattle.bench_base.specs.declared.events.Reply.TheVariants as r
 use Rattle.bench_base.specs.Replies.{MayGet}
 use Rattle.nv_model.specs.declared.nv.Nv as nv
@@ -12,7 +10,7 @@ use Rattle.node_acts.specs.Kinds.{Kind}
 use Rattle.node_storage.specs.declared.node.Node.{Ghosts}
 use Rattle.node_turns.specs.Printing.{Printer, PrinterDid, NodePrints}
 
--- a reply that tells nothing of the printer
+-- a reply that reports nothing of the printer
 pub record IsUnprinted (reply : Reply) : Type 0 where
   pub whole : (job : ℕ) → reply ≢ r.Printed job
   pub cut : (job : ℕ) → reply ≢ r.PrinterFault job

@@ -1,9 +1,7 @@
--- The acts of the verifier's calls: what they change, and how they are told.
+-- The acts of the verifier's calls: what they change, and how they are reported.
 use Rattle.std.proofs.Common.{◌≢◌, ℕ, ℤ, List, Bool, true, false, Option, Some, None, Result, Ok, Err, refl, inr, arith}
 use Rattle.std.specs.Prelude.{is_some}
-use Rattle.bench_base.specs.declared.words.Node.TheVariants.{Verifier}
-use Rattle.bench_base.specs.declared.refusals.MarkFault.{MarkFault}
-use Rattle.bench_base.specs.declared.refusals.ScanRefusal.{ScanRefusal}
+use Rattle.bench_base.specs.declared.{words.Node.TheVariants.Verifier, refusals.MarkFault.MarkFault, refusals.ScanRefusal.ScanRefusal}
 use Rattle.bench_base.specs.declared.events.Event.TheVariants as ev
 use Rattle.bench_base.specs.declared.events.Reply.TheVariants as r
 use Rattle.bench_base.proofs.Rows.{chosen}
@@ -15,9 +13,7 @@ use Rattle.node_turns.proofs.Calls.{IsCallOf, IsToldBy, MayRefuse}
 use Rattle.indicium.specs.declared.Mark.{Mark}
 use Rattle.indicium.specs.Marks.{read_mark}
 use Rattle.psd_wire.specs.Codes.{has_code}
-use Rattle.verifier.specs.declared.acts.Accepted.{Accepted}
-use Rattle.verifier.specs.declared.acts.Change.{Change}
-use Rattle.verifier.specs.declared.acts.Spot.{Spot}
+use Rattle.verifier.specs.declared.{acts.Accepted.Accepted, acts.Change.Change, acts.Spot.Spot}
 use Rattle.verifier.specs.Acts as acts
 use Rattle.verifier.specs.Acts.{ScanAct}
 use Rattle.verifier.specs.ActLaws.{IsFit, LeavesSound, SoundActs}
@@ -44,7 +40,7 @@ module _ {K S R : Type 0} (n : Ghosts K S (Unit {0}) Change R) (rows : Seen) (so
   call_fits today (call.Trust c) ranged bytes = commit_says _ _ _ (acts.trust_act c.device c.key rows) (by (acts.trust_act c.device c.key rows) (sound_acts.trusted c.device c.key ranged.0 ranged.1))
   call_fits today (call.Scan c) ranged bytes = commit_says _ _ _ (acts.scan_act c.number c.bytes today rows) (by (acts.scan_act c.number c.bytes today rows) (sound_acts.scanned c.number c.bytes today ranged bytes))
 
--- == whose the commit is ==
+-- == the node of each commit ==
 
 trust_own : (d : ℕ) (key : List ℕ) (known : Bool) → IsOfNode Verifier (acts.trusted_act d key known)
 trust_own d key true = tt
@@ -63,7 +59,7 @@ read_own : (n : ℕ) (bytes : List ℕ) (today : ℤ) (s : Seen) (result : Resul
 read_own n bytes today s (Err fault) = tt
 read_own n bytes today s (Ok k) = marked_own n bytes k.0 today (key_at s k.0.device) (spot_in s k.0.device k.0.piece)
 
--- == how they are told ==
+-- == how they are reported ==
 
 pub call_of : (c : VerifierCall) → IsCallOf Verifier (verifier_call_event c)
 call_of (call.Trust c) = record { on = refl; at = refl; no_switch = λ e. cc; no_cut = λ calls keep byte e. cc }

@@ -1,12 +1,9 @@
--- What contracts see of a bench, and when it represents a ledger. A kind of nodes is a field of `Bench`, of `Stores` and of `Nodes`, and a row of
--- `At`, `Of`, `By` and `store_of`; all else is said of a node by its name.
+-- What contracts see of a bench, and when it represents a ledger. A kind of nodes is a field of `Bench`, of `Stores` and of
+-- `Nodes`, and a row of `At`, `Of`, `By` and `store_of`. Everything besides these refers to a node by its name.
 use Rattle.std.specs.Prelude.{◌≡◌, ℕ, ℤ, ◌+◌, zero, suc, false, List, [], Option, Some, None, length, replicate, slice_get}
-use Rattle.bench_base.specs.declared.words.Node.{Node}
-use Rattle.bench_base.specs.declared.words.Node.TheVariants.{Device, Centre, Host, Verifier}
-use Rattle.bench_base.specs.declared.sizes.TheConstants.{DEVICE_BYTES, CENTRE_BYTES, VERIFIER_BYTES}
+use Rattle.bench_base.specs.declared.{words.Node.Node, words.Node.TheVariants.Device, words.Node.TheVariants.Centre, words.Node.TheVariants.Host, words.Node.TheVariants.Verifier, sizes.TheConstants.DEVICE_BYTES, sizes.TheConstants.CENTRE_BYTES, sizes.TheConstants.VERIFIER_BYTES, events.Event.Event}
 use Rattle.host_jobs.specs.declared.sizes.TheConstants.{HOST_BYTES}
 use Rattle.bench_base.specs.Rules.{editions}
-use Rattle.bench_base.specs.declared.events.Event.{Event}
 use Rattle.bench_base.specs.Ledger.{Ledger, day_in, rates_in, is_on}
 use Rattle.nv_model.specs.declared.nv.Nv as nv
 use Rattle.nv_model.specs.declared.fuse.Fuse as fuse
@@ -23,18 +20,14 @@ use Rattle.host_rates.specs.Tables.{RateTable}
 use Rattle.host_rates.specs.Tariffs.{Keeps}
 use Rattle.ledger_moves.specs.Tariffs.{Tariff}
 use Rattle.ledger_moves.specs.Histories.{History, Unforged}
-use Rattle.bench_abstraction.specs.declared.calls.DeviceCall.{DeviceCall}
-use Rattle.bench_abstraction.specs.declared.calls.CentreCall.{CentreCall}
-use Rattle.bench_abstraction.specs.declared.calls.HostCall.{HostCall}
-use Rattle.bench_abstraction.specs.declared.calls.VerifierCall.{VerifierCall}
+use Rattle.bench_abstraction.specs.declared.{calls.DeviceCall.DeviceCall, calls.CentreCall.CentreCall, calls.HostCall.HostCall, calls.VerifierCall.VerifierCall}
 use Rattle.bench_abstraction.specs.Kinds.{Kinds}
 use Rattle.bench_abstraction.specs.Messages.{sent_in}
 use Rattle.bench_abstraction.specs.Tariff.{IsOfTexts}
-use Rattle.bench.specs.declared.stores.Stores.{Stores}
-use Rattle.bench.specs.declared.benches.BenchOver.{BenchOver}
+use Rattle.bench.specs.declared.{stores.Stores.Stores, benches.BenchOver.BenchOver}
 
--- the day, the messages of the run, of which the first was sent first, the rates that were read last, the devices, of which number i is
--- device i + 1, and the nodes of which there is one
+-- the day, the messages of the run in the order in which they were sent, the rates that were read last, the devices (number
+-- i is device i + 1), and the nodes that occur once
 pub record Bench (D C H V : Type 0) : Type 0 where
   pub day : Option ℤ
   pub messages : List (List ℕ)
@@ -124,7 +117,8 @@ pub record Nodes : Type 1 where
   pub fuse : fuse.Ghosts Storage
   pub inner : nv.Ghosts Inner
 
-abbrev pub bench_nodes : {D C H V XD XC XH XV RD RC RH RV S N : Type 0} (d : Ghosts D S ℕ XD RD) (c : Ghosts C S (Unit {0}) XC RC) (h : Ghosts H S (Unit {0}) XH RH) (v : Ghosts V S (Unit {0}) XV RV)
+abbrev pub bench_nodes : {D C H V XD XC XH XV RD RC RH RV S N : Type 0} (d : Ghosts D S ℕ XD RD) (c : Ghosts C S (Unit {0}) XC RC)
+    (h : Ghosts H S (Unit {0}) XH RH) (v : Ghosts V S (Unit {0}) XV RV)
     → Kinds d.Seen c.Seen h.Seen v.Seen → nv.Ghosts S → fuse.Ghosts S → nv.Ghosts N → Nodes
 bench_nodes {D} {C} {H} {V} {XD} {XC} {XH} {XV} {RD} {RC} {RH} {RV} {S} {N} d c h v kinds storage armed inner = record {
   Devices = D;
@@ -157,8 +151,8 @@ BenchOf n = Bench n.Devices n.Centres n.Hosts n.Verifiers
 
 -- == what holds of a node, whatever its kind ==
 
--- one kind of nodes, over storages S: the types of its nodes, of their names, of what a commit changes, of the memory that they run in and of
--- their calls; what they keep, and what the ledger shows of it
+-- One kind of nodes, over storages S: the types of its nodes, of their names, of what a commit changes, of the memory that
+-- they run in and of their calls. It also has what they keep, and what the ledger shows of it.
 pub record OneKind (S : Type 0) : Type 1 where
   pub Own : Type 0
   pub Name : Type 0
@@ -183,13 +177,29 @@ module _ (n : Nodes) where
   devices = record { Own = n.Devices; Name = ℕ; Change = n.DeviceChange; Spare = n.DeviceSpare; Call = DeviceCall; ghosts = n.devices; kind = n.kinds.devices }
 
   abbrev pub centre : OneKind n.Storage
-  centre = record { Own = n.Centres; Name = Unit {0}; Change = n.CentreChange; Spare = n.CentreSpare; Call = CentreCall; ghosts = n.centre; kind = n.kinds.centre }
+  centre = record {
+    Own = n.Centres;
+    Name = Unit {0};
+    Change = n.CentreChange;
+    Spare = n.CentreSpare;
+    Call = CentreCall;
+    ghosts = n.centre;
+    kind = n.kinds.centre;
+  }
 
   abbrev pub host : OneKind n.Storage
   host = record { Own = n.Hosts; Name = Unit {0}; Change = n.HostChange; Spare = n.HostSpare; Call = HostCall; ghosts = n.host; kind = n.kinds.host }
 
   abbrev pub verifier : OneKind n.Storage
-  verifier = record { Own = n.Verifiers; Name = Unit {0}; Change = n.VerifierChange; Spare = n.VerifierSpare; Call = VerifierCall; ghosts = n.verifier; kind = n.kinds.verifier }
+  verifier = record {
+    Own = n.Verifiers;
+    Name = Unit {0};
+    Change = n.VerifierChange;
+    Spare = n.VerifierSpare;
+    Call = VerifierCall;
+    ghosts = n.verifier;
+    kind = n.kinds.verifier;
+  }
 
   -- P holds of this node
   abbrev pub By : OfName n.Storage → Node → Type 0
@@ -198,14 +208,14 @@ module _ (n : Nodes) where
   By P Host = P host Host tt
   By P Verifier = P verifier Verifier tt
 
-  -- as it stands on the bench
+  -- P holds of this node as it is on the bench
   abbrev pub Of : OfState n.Storage → BenchOf n → Node → Type 0
   Of P bench (Device d) = (i : ℕ) (s : n.Devices) → d ≡ i + 1 → slice_get bench.devices i ≡ Some s → P devices (Device d) d s
   Of P bench Centre = P centre Centre tt bench.centre
   Of P bench Host = P host Host tt bench.host
   Of P bench Verifier = P verifier Verifier tt bench.verifier
 
-  -- as it stood on the one bench, and as it stands on the other
+  -- P holds of this node as it was on the old bench and as it is on the new one
   abbrev pub At : OfChange n.Storage → BenchOf n → BenchOf n → Node → Type 0
   At P old new (Device d) =
       (i : ℕ) (s t : n.Devices) → d ≡ i + 1 → slice_get old.devices i ≡ Some s → slice_get new.devices i ≡ Some t → P devices (Device d) d s t
@@ -213,12 +223,12 @@ module _ (n : Nodes) where
   At P old new Host = P host Host tt old.host new.host
   At P old new Verifier = P verifier Verifier tt old.verifier new.verifier
 
-  -- the bench represents the ledger: so does each node of it
+  -- the bench represents the ledger: each of its nodes represents it
   pub record Stands (bench : BenchOf n) (L : Ledger) : Type 0 where
     pub day : HasDay bench.day bench.messages bench.rates L
     pub nodes : (m : Node) → Of (λ k i d s. node.Stands k.ghosts n.storage d (view_in i (k.kind.seen d) L) s) bench m
 
-  -- a storage represents the ledger, whose node is off
+  -- a storage represents the ledger, and its node is off
   abbrev pub StoreStandsOff : Ledger → n.Inner → Node → Type 0
   StoreStandsOff L store m = (is_on m L ≡ false) × By (λ k i d. StoreStands k.ghosts n.inner d (view_in i (k.kind.seen d) L) store) m
 
@@ -227,6 +237,7 @@ module _ (n : Nodes) where
     pub day : HasDay None [] None L
     pub nodes : (m : Node) (store : n.Inner) → store_of stores m ≡ Some store → StoreStandsOff L store m
 
-  -- P holds of each history for which the bench stands and at which the event is unforged, by a tariff of texts, where its storages tell
+  -- P holds of each history that the bench represents and in which the event is unforged, by a tariff of texts, if the
+  -- storages expose their contents
   abbrev pub ForEach : BenchOf n → Event → (Tariff → Ledger → Type 0) → Type 0
   ForEach bench e P = (τ : Tariff) (L : Ledger) → IsOfTexts τ → History τ editions L → Unforged e L → Stands bench L → n.storage.tells → P τ L

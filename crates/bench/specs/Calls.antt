@@ -1,16 +1,12 @@
 -- What an event of one node does to the bench, and which events ask a node for what.
 use Rattle.std.specs.Prelude.{◌≡◌, ℕ, ℤ, ◌+◌, List, [], Bool, Some, slice_get, slice_set}
-use Rattle.bench_base.specs.declared.words.Node.{Node}
-use Rattle.bench_base.specs.declared.words.Node.TheVariants.{Device, Centre, Host, Verifier}
-use Rattle.bench_base.specs.declared.events.Event.{Event}
+use Rattle.bench_base.specs.declared.{words.Node.Node, words.Node.TheVariants.Device, words.Node.TheVariants.Centre, words.Node.TheVariants.Host, words.Node.TheVariants.Verifier, events.Event.Event}
 use Rattle.bench_base.specs.declared.events.Event.TheVariants as ev
 use Rattle.bench_base.specs.declared.events.Reply.TheVariants as r
 use Rattle.bench_base.specs.Ranges.{IsDevice, IsCustomer, IsWord, IsCount, IsKey}
 use Rattle.nv_model.specs.declared.nv.Nv as nv
 use Rattle.nv_model.specs.declared.fuse.Fuse as fuse
-use Rattle.node_acts.specs.declared.act.Started.{Started}
-use Rattle.node_acts.specs.declared.asked.Asked.{Asked}
-use Rattle.node_acts.specs.declared.asked.Asked.TheVariants.{On, Off, Cut, Call}
+use Rattle.node_acts.specs.declared.{act.Started.Started, asked.Asked.Asked, asked.Asked.TheVariants.On, asked.Asked.TheVariants.Off, asked.Asked.TheVariants.Cut, asked.Asked.TheVariants.Call}
 use Rattle.node_acts.specs.Kinds.{Kind}
 use Rattle.node_storage.specs.declared.node.Node.{Ghosts}
 use Rattle.node_storage.specs.Starts.{StartDoes, StopDoes, ArmDoes}
@@ -18,14 +14,10 @@ use Rattle.node_turns.specs.declared.turn.Turn.{Turn}
 use Rattle.node_turns.specs.NodeTurns.{NodeTurn}
 use Rattle.node_turns.specs.Printing.{Printer, NodePrints}
 use Rattle.node_turns.specs.Turns.{turn_of, start_turn, stop_turn}
-use Rattle.bench_abstraction.specs.declared.calls.DeviceCall.{DeviceCall}
-use Rattle.bench_abstraction.specs.declared.calls.DeviceCall.TheVariants.{Make, Debit, Ask, Resend, Ack, Status, Take}
-use Rattle.bench_abstraction.specs.declared.calls.CentreCall.{CentreCall}
+use Rattle.bench_abstraction.specs.declared.{calls.DeviceCall.DeviceCall, calls.DeviceCall.TheVariants.Make, calls.DeviceCall.TheVariants.Debit, calls.DeviceCall.TheVariants.Ask, calls.DeviceCall.TheVariants.Resend, calls.DeviceCall.TheVariants.Ack, calls.DeviceCall.TheVariants.Status, calls.DeviceCall.TheVariants.Take, calls.CentreCall.CentreCall, calls.HostCall.HostCall, calls.VerifierCall.VerifierCall}
 use Rattle.bench_abstraction.specs.declared.calls.CentreCall.TheVariants as call
 use Rattle.host_jobs.specs.ActLaws.{IsPrice}
-use Rattle.bench_abstraction.specs.declared.calls.HostCall.{HostCall}
 use Rattle.bench_abstraction.specs.declared.calls.HostCall.TheVariants as host
-use Rattle.bench_abstraction.specs.declared.calls.VerifierCall.{VerifierCall}
 use Rattle.bench_abstraction.specs.declared.calls.VerifierCall.TheVariants as verifier
 
 -- == events ==
@@ -80,17 +72,20 @@ host_event asked = asked_event Host host_call_event asked
 abbrev pub verifier_event : Asked VerifierCall → Event
 verifier_event asked = asked_event Verifier verifier_call_event asked
 
--- What a node m came to that is d of its kind, where it was asked this: how it was switched, or its fuse armed, is told so of each kind, and the printer took nothing;
--- of a call P holds.
-abbrev pub Comes : {K S N C R X : Type 0} (n : Ghosts K S N C R) → nv.Ghosts S → fuse.Ghosts S → Node → N → (Turn → Type 0) → K → K → Printer → Printer → (X → Type 0) → Asked X → Type 0
+-- What node m, which is d of its kind, came to if it was asked this. A switch, or a fuse that was armed, is reported alike
+-- for each kind, and the printer took nothing. If it was a call, P holds.
+abbrev pub Comes : {K S N C R X : Type 0} (n : Ghosts K S N C R) → nv.Ghosts S → fuse.Ghosts S → Node → N → (Turn → Type 0) → K → K → Printer
+    → Printer → (X → Type 0) → Asked X → Type 0
 Comes n g f m d IsOf s t p q P On = (x : Started) × StartDoes n g d s t x × IsOf (start_turn m x) × (q ≡ p)
 Comes n g f m d IsOf s t p q P Off = (was : Bool) × StopDoes n g s t was × IsOf (stop_turn m was) × (q ≡ p)
 Comes n g f m d IsOf s t p q P (Cut calls keep byte) = ArmDoes n g f calls keep byte s t × IsOf (turn_of (r.CutSet m) []) × (q ≡ p)
 Comes n g f m d IsOf s t p q P (Call c) = P c
 
--- what the event of node m, which is d of its kind, came to on that day, as it is told, and what the printer took in it
-abbrev pub Told : {K S N C R X : Type 0} (n : Ghosts K S N C R) → nv.Ghosts S → fuse.Ghosts S → Kind N n.Seen X → Node → N → ℤ → Event → Asked X → (Turn → Type 0) → K → K → Printer → Printer → Type 0
-Told n g f kind m d today e asked IsOf s t p q = (turn : Turn) × IsOf turn × NodeTurn n g f kind m d today e asked s t turn × NodePrints n g kind m d today asked s turn.reply p q
+-- what the event of node m, which is d of its kind, came to on that day, as it is reported, and what the printer took in it
+abbrev pub Told : {K S N C R X : Type 0} (n : Ghosts K S N C R) → nv.Ghosts S → fuse.Ghosts S → Kind N n.Seen X → Node → N → ℤ → Event → Asked X
+    → (Turn → Type 0) → K → K → Printer → Printer → Type 0
+Told n g f kind m d today e asked IsOf s t p q = (turn : Turn) × IsOf turn × NodeTurn n g f kind m d today e asked s t turn
+    × NodePrints n g kind m d today asked s turn.reply p q
 
 -- what the event of a device came to on that day, what the printer took in it, and where the device stands
 pub record DeviceTurn {K S C R : Type 0} (n : Ghosts K S ℕ C R) (g : nv.Ghosts S) (f : fuse.Ghosts S) (kind : Kind ℕ n.Seen DeviceCall)
@@ -106,7 +101,7 @@ pub record DeviceTurn {K S C R : Type 0} (n : Ghosts K S ℕ C R) (g : nv.Ghosts
 
 -- == ranges ==
 
--- the numbers of a call of the centre, as an event brings them
+-- the ranges of the numbers in a call of the centre, as an event contains them
 abbrev pub IsRangedCall : CentreCall → Type 0
 IsRangedCall (call.Register c) = IsDevice c.device × IsWord c.origin
 IsRangedCall (call.Open c) = IsCustomer c.customer

@@ -1,4 +1,4 @@
--- How often failures are answered over several events, whatever the storages tell.
+-- How often failures are answered over several events, whether or not the storages expose their contents.
 use Rattle.std.specs.Prelude.{ℕ, ◌+◌, ◌≤◌, ◌<◌, ◌-◌, ◌^◌, Bool, true, false, Option, Some, None}
 use Rattle.nv_model.specs.Meters.{Meters}
 
@@ -10,8 +10,9 @@ abbrev pub armed : Option ℕ → ℕ
 armed None = 0
 armed (Some left) = 1
 
--- Of one node: so often were a power failure, a fault and a `cut` answered. While no count has reached its end, each
--- power failure raised the count of cuts or used up a fuse that a `cut` or nobody armed, and each fault raised that of faults.
+-- One node answered so many power failures, faults and `cut`s, with these counts before and after. While no count has
+-- reached its end, each power failure raised the count of cuts or used up a fuse that a `cut` or nobody armed, and each
+-- fault raised that of faults.
 pub record Balanced (powers failures cutsets : ℕ) (was is : Meters) : Type 0 where
   pub cuts : was.cuts ≤ is.cuts
   pub faults : was.faults ≤ is.faults

@@ -38,7 +38,7 @@ outside s rates p printer = beside (feed_of s rates) (printer_of p printer)
 
 -- == what is read of the rates ==
 
--- what is told of a text that was read, and the rates that are kept then
+-- what is reported of a text that was read, and the rates that are kept then
 abbrev pub rates_turn : List ℕ → Result RateTable RatesFail → Turn
 rates_turn text (Ok x) = turn_of (r.Rates (length x.classes) x.zones) (entry.Rates text ∷ [])
 rates_turn text (Err (fail.Length n)) = turn_of r.RatesLength []
@@ -52,8 +52,10 @@ rates_after kept (Err x) = kept
 
 -- A `rates` on a day: its source failed, and some bytes were taken, or the text was taken whole, and is answered by what it reads as.
 pub data ReadsText (text : List ℕ) (turn : Turn) (kept kept_now : Option RateTable) (before now : Feed) : Type 0 where
-  failed : turn ≡ turn_of r.RatesFault [] → kept_now ≡ kept → Consumes before.left now.left text → length text < 65537 → Rose before.faults now.faults → ReadsText text turn kept kept_now before now
-  read : TakesUpTo 65537 text before.left now.left → turn ≡ rates_turn text (answer text) → kept_now ≡ rates_after kept (answer text) → ReadsText text turn kept kept_now before now
+  failed : turn ≡ turn_of r.RatesFault [] → kept_now ≡ kept → Consumes before.left now.left text → length text < 65537 → Rose before.faults now.faults
+      → ReadsText text turn kept kept_now before now
+  read : TakesUpTo 65537 text before.left now.left → turn ≡ rates_turn text (answer text) → kept_now ≡ rates_after kept (answer text)
+      → ReadsText text turn kept kept_now before now
 
 -- nothing was read, and the rates are kept
 pub record ReadsNothing (text : List ℕ) (kept kept_now : Option RateTable) (before now : Feed) : Type 0 where

@@ -18,13 +18,13 @@ use Rattle.verifier_node.specs.NodeView.{VerifierNode}
 use Rattle.bench.specs.Benches.{Bench, Nodes, BenchOf}
 use Rattle.bench.specs.Benches as benches
 
--- two lists, of which each two elements at one place are related
+-- two lists of one length, with each two elements at the same place related
 abbrev pub Pairs : {X Y : Type 0} → (X → Y → Type 0) → List X → List Y → Type 0
 Pairs P [] [] = Unit {0}
 Pairs P (x ∷ xs) (y ∷ ys) = P x y × Pairs P xs ys
 Pairs P _ _ = ⊥
 
--- a node that is off or on, over the storage with a fuse that it has: this one is off, over this storage, whose fuse is not armed
+-- a node over a storage with a fuse is off; the storage within is this one, and the fuse is not armed
 pub record IsOver {N : Type 0} {h : nv.Ghosts N} (store : N) (is_on : Bool) (storage : Fused N h) : Type 0 where
   pub off : is_on ≡ false
   pub within : inside storage ≡ store
@@ -33,14 +33,16 @@ pub record IsOver {N : Type 0} {h : nv.Ghosts N} (store : N) (is_on : Bool) (sto
 abbrev pub IsDeviceOver : {N : Type 0} {h : nv.Ghosts N} {g : nv.Ghosts (Fused N h)} → N → DeviceNode (Fused N h) g → Type 0
 IsDeviceOver store k = IsOver store (device.is_on k) (device.storage_in k)
 
-abbrev pub IsRowsOver : {N R X M P : Type 0} {h : nv.Ghosts N} {g : nv.Ghosts (Fused N h)} {r : rows.Ghosts R X M P} {m : cells.Ghosts M P} → N → RowNode (Fused N h) R X M P g r m → Type 0
+abbrev pub IsRowsOver : {N R X M P : Type 0} {h : nv.Ghosts N} {g : nv.Ghosts (Fused N h)} {r : rows.Ghosts R X M P} {m : cells.Ghosts M P} → N
+    → RowNode (Fused N h) R X M P g r m → Type 0
 IsRowsOver store k = IsOver store (row_node.is_on k) (row_node.storage_in k)
 
 -- the storage is the one inside the node's fuse
 abbrev pub IsInDevice : {N : Type 0} {h : nv.Ghosts N} {g : nv.Ghosts (Fused N h)} → DeviceNode (Fused N h) g → N → Type 0
 IsInDevice k store = store ≡ inside (device.storage_in k)
 
-abbrev pub IsInRows : {N R X M P : Type 0} {h : nv.Ghosts N} {g : nv.Ghosts (Fused N h)} {r : rows.Ghosts R X M P} {m : cells.Ghosts M P} → RowNode (Fused N h) R X M P g r m → N → Type 0
+abbrev pub IsInRows : {N R X M P : Type 0} {h : nv.Ghosts N} {g : nv.Ghosts (Fused N h)} {r : rows.Ghosts R X M P} {m : cells.Ghosts M P}
+    → RowNode (Fused N h) R X M P g r m → N → Type 0
 IsInRows k store = store ≡ inside (row_node.storage_in k)
 
 -- the nodes of a bench over storages with fuses

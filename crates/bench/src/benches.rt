@@ -1,8 +1,7 @@
 //! Eight devices, the centre, the host and the verifier, each in its place; the day, the rates and the messages of the run.
 ghost use Rattle.std.specs.Prelude.{◌≡◌, ◌≤◌, ◌<◌, ◌+◌, [], ◌∷◌, ◌++◌, Some, None, length, slice_get, IfOk, IfErr};
 ghost use Rattle.std.specs.Vec.{vec_capacity};
-ghost use Rattle.bench_base.specs.declared.ledger.Entry.TheVariants.{Begin};
-ghost use Rattle.bench_base.specs.declared.words.Node.{Node as NodeNo};
+ghost use Rattle.bench_base.specs.declared.{ledger.Entry.TheVariants.Begin, words.Node.Node as NodeNo};
 ghost use Rattle.bench_base.specs.Ledger.{Ledger};
 ghost use Rattle.bench_abstraction.specs.Kinds.{bench_kinds};
 ghost use Rattle.bench.specs.declared.benches.TheConstants.{MOST_MESSAGES};
@@ -138,10 +137,10 @@ impl<N: Nv + Drop> Bench<N> {
     ghost use Rattle.bench.specs.Benches.{IsReady, Stands, StoresStand, AreBlank, bench_of, places_of, store_of};
     ghost use Rattle.bench.specs.Places.{AreOver, AreInside};
 
-    /// A bench over these storages, which have power and no fuse: all nodes are off, and there is no day, no rates and no message. The
-    /// memory in which the nodes run is made here, and that for a run's messages, 1,000,000 of 88 bytes, so that sending one takes none.
-    /// The bench represents what the storages represent, and for the empty ledger where they are blank. Where there is no memory, the
-    /// storages come back.
+    /// A bench over these storages, which have power and no fuse: all nodes are off, and there is no day, no rates and no
+    /// message. The memory that the nodes run in is allocated here, and also that for a run's messages: 1,000,000 of 88
+    /// bytes. So sending a message allocates none. The bench represents what the storages represent, or the empty ledger if
+    /// they are blank. If memory runs out, the storages are returned.
     pub fn new(alloc: Global, stores: Stores<N>) -> Result<Bench<N>, Stores<N>>
         requires eight { length stores.devices.items ≡ 8 }
         requires fresh { (m : NodeNo) (nv : N) → store_of (places_of stores) m ≡ Some nv → Works (N.meters nv) }
@@ -197,8 +196,8 @@ impl<N: Nv + Drop> Bench<N> {
         })
     }
 
-    /// The storages, without their fuses. A node that is on is switched off. They represent what the bench represented, with a new run
-    /// begun. One whose power was lost wants a restart before another bench is made of it.
+    /// The storages, without their fuses. A node that is on is switched off. They represent what the bench represented,
+    /// with a new run begun. A storage that lost power needs a restart before another bench is made of it.
     pub fn into_stores(self) -> Stores<N>
         requires ready { IsReady (bench_of self) }
         ensures inside { AreInside (bench_of self) (places_of result) }

@@ -12,7 +12,7 @@ use node_storage::Node;
 use nv_model::Fuse;
 use psd_device::DeviceNode;
 
-// Of a device in its place. The device answers before the centre.
+// Compares a device in its place with the centre. The device answers before the centre.
 fn compare_place<M: Fuse + Drop>(
     device: DevNo,
     place: &DeviceNode<M>,

@@ -34,7 +34,7 @@ fn begun<T: Tell>(day: DayNo) -> T
     T::one(Reply::Day(day), Entry::Day(day))
 }
 
-// What a `rates` does. It alone may want memory, and it sends nothing.
+// What a `rates` does. Only it may need memory, and it sends nothing.
 fn rates_turn<T: Tell, M: Fuse + Drop, N: Nv, R: Source>(
     alloc: Global,
     bench: &mut BenchOver<M, N>,
@@ -122,7 +122,7 @@ fn turn_of<T: Tell, M: Fuse + Drop, N: Nv, P: Sink>(
     }
 }
 
-/// Does one event as `step` does, and tells it whole or by its reply alone, which makes no entries.
+/// Does one event as `step` does, and reports it whole, or by its reply alone, which creates no entries.
 pub fn react<T: Tell, M: Fuse + Drop, N: Nv, R: Source, P: Sink>(
     alloc: Global,
     bench: &mut BenchOver<M, N>,
@@ -149,17 +149,22 @@ pub fn react<T: Tell, M: Fuse + Drop, N: Nv, R: Source, P: Sink>(
     rates_turn(alloc, bench, rates)
 }
 
-/// Does one event: its reply, and what it adds to the ledger. Only a `rates` on a day takes memory, for its text and its rates; where
-/// there is none, the bench is as before (`memory`). Otherwise there is a text, what a `rates` took and nothing for every other event, such
-/// that (`did`, see `Steps`):
+/// Does one event, and returns its reply and what it adds to the ledger.
 ///
-/// - `history`: for every history for which the bench stands, at which nothing that the event brings is forged, and whose storages
-///   tell what they hold, the reply and the entries are those of the event there, and the bench represents the history with them; so do
-///   the storages at every moment meanwhile, except for the one commit of the event; and the printer takes the mark that the event prints.
-/// - `shown`: where the storages tell, whether the bench represents a history or not: the event does what any view allows for
-///   which its node stands; only an event that may commit writes; and damage is told if and only if it was found.
-/// - `always`: which replies the event may get, what needs a day and a node that is on, what a refusal leaves, what failures
-///   and fuses cost, what is read of the rates and what the printer takes, whatever the storages tell.
+/// Only a `rates` on a day takes memory, for its text and its rates. If memory runs out, the bench is as before (`memory`).
+/// Otherwise there is a text: what a `rates` took, and nothing for every other event. With it these hold (`did`, see
+/// `Steps`):
+///
+/// - `history`: by every history that the bench represents, if the event is unforged there and the storages expose their
+///   contents. The reply and the entries are those of the event there, and the bench represents the history with them. At
+///   every moment meanwhile the storages show the history, or the history and the one commit of the event. The printer
+///   takes the mark that the event prints.
+/// - `shown`: this holds if the storages expose their contents, whether the bench represents a history or not. The event
+///   does what each view that its node represents allows. Only an event that may commit writes. Damage is reported if and
+///   only if it was found.
+/// - `always`: this holds whether or not the storages expose their contents. It says which replies the event may get, what
+///   needs a day and a node that is on, and what a refusal leaves. It says what failures and fuses cost, what is read of
+///   the rates, and what the printer takes.
 pub fn step<R: Source, P: Sink, N: Nv + Drop>(
     alloc: Global,
     bench: &mut Bench<N>,

@@ -10,7 +10,7 @@ use node_acts::Asked;
 use node_storage::Arms;
 use node_turns::{Tell, cut, start, stop};
 
-/// A kind of nodes, of which calls C are asked: how a call is told, and what the printer takes in it.
+/// A kind of nodes that answers calls of type C: how a call is reported, and what the printer takes in it.
 pub trait Turns<C, T: Tell, P: Sink>: Arms {
     ghost use Rattle.std.specs.Prelude.{ℤ};
     ghost use Rattle.node_turns.specs.Printing.{Printer, printer_of};
@@ -21,7 +21,8 @@ pub trait Turns<C, T: Tell, P: Sink>: Arms {
     /// What a call hands over is a list of bytes.
     ghost IsBytes: { C → Type 0 };
 
-    /// What a call of this node on this day comes to: the node and the printer before it and after it, and how it is told.
+    /// What a call of this node on this day comes to: the node and the printer before it and after it, and how it is
+    /// reported.
     ghost CameTo: { Self.Name → ℤ → C → Self → Self → Printer → Printer → T → Type 0 };
 
     /// A call of the node, on that day.

@@ -2,23 +2,15 @@
 use Rattle.std.proofs.Common.{◌≡◌, ℕ, List, [], ◌∷◌, ◌++◌, Option, Some, None, Bool, true, false, option_map, refl, arith}
 use Rattle.std.specs.Prelude.{if◌then◌else◌}
 use Rattle.std.proofs.lemmas.Option.{none-some}
-use Rattle.bench_base.specs.declared.words.Node.{Node}
-use Rattle.bench_base.specs.declared.ledger.Commit.{Commit}
+use Rattle.bench_base.specs.declared.{words.Node.Node, ledger.Commit.Commit, events.Reply.Reply}
 use Rattle.bench_base.specs.declared.ledger.Entry.TheVariants as entry
-use Rattle.bench_base.specs.declared.events.Reply.{Reply}
 use Rattle.bench_base.specs.declared.events.Reply.TheVariants as r
 use Rattle.bench_base.specs.Replies.{ReplyClass, Did, Refused, Armed, CameOn, WentOff, LostPower, Faulted, WasDamaged, PrinterFailed, RatesFailed}
 use Rattle.bench_base.specs.Nodes.{node_of}
 use Rattle.bench_base.specs.Plans.{Plan, refuse, made, told}
 use Rattle.bench_base.specs.Ledger.{Ledger, is_on}
-use Rattle.node_acts.specs.declared.asked.Asked.{Asked}
-use Rattle.node_acts.specs.declared.asked.Asked.TheVariants.{On, Off, Cut, Call}
+use Rattle.node_acts.specs.declared.{asked.Asked.Asked, asked.Asked.TheVariants.On, asked.Asked.TheVariants.Off, asked.Asked.TheVariants.Cut, asked.Asked.TheVariants.Call, act.Act.Act, act.Act.TheVariants.Refuse, act.Act.TheVariants.Tell, act.Act.TheVariants.Commits, said.Said.Said, said.GivenOut.GivenOut, said.GivenOut.TheVariants.Released, said.GivenOut.TheVariants.Printed}
 use Rattle.node_acts.specs.Views.{Counting, View}
-use Rattle.node_acts.specs.declared.act.Act.{Act}
-use Rattle.node_acts.specs.declared.act.Act.TheVariants.{Refuse, Tell, Commits}
-use Rattle.node_acts.specs.declared.said.Said.{Said}
-use Rattle.node_acts.specs.declared.said.GivenOut.{GivenOut}
-use Rattle.node_acts.specs.declared.said.GivenOut.TheVariants.{Released, Printed}
 use Rattle.node_acts.specs.Said.{seen_plan, tells, with_sent, with_given}
 use Rattle.node_acts.specs.Plans.{MayReply, after, after_told, with_commit, with_torn, done_plan}
 use Rattle.node_acts.specs.Kinds.{view_in, node_plan, node_commit}
@@ -61,7 +53,7 @@ stepped n m seen H call_plan call_commit Off calls x may = turns_off n m seen H 
 stepped n m seen H call_plan call_commit (Cut k keep byte) calls x may = cuts n m seen H x may
 stepped n m seen H call_plan call_commit (Call c) calls x may = calls c refl x may
 
--- what is told by the plan begins no run, and with the commit it is few
+-- the entries of the plan begin no run, and with the commit there are few
 pub record IsTame (p : Plan) : Type 0 where
   pub none : NoBegin p.after
   pub few : IsFew (p.after ++ with_commit p.commit [])
@@ -106,7 +98,7 @@ plan_tame n m call_plan v calls Off = by v.on
 plan_tame n m call_plan v calls (Cut k keep byte) = quiet_tame (r.CutSet m)
 plan_tame n m call_plan v calls (Call c) = calls c
 
--- so is the plan of a call
+-- the plan of a call is tame
 pub said_tame : {S X : Type 0} (n : Counting S X) (m : Node) (v : View S) (act : Act X Reply Said) → IsTame (seen_plan n m v act)
 said_tame {X = X} n m v act = by_on v.on
   where

@@ -2,13 +2,7 @@
 use Rattle.std.proofs.Common.{◌≡◌, ℕ, ℤ, ◌+◌, List, [], Option, Some, None, Bool, true, false, Result, Ok, Err, refl, sym, ◌∙◌, ap, subst, arith}
 use Rattle.std.specs.Prelude.{◌-◌, length, IfSome, if◌then◌else◌}
 use Rattle.std.proofs.lemmas.Bool.{lt-ltb, le-ltb}
-use Rattle.bench_base.specs.declared.words.Node.{Node}
-use Rattle.bench_base.specs.declared.words.Verdict.{Verdict}
-use Rattle.bench_base.specs.declared.words.Node.TheVariants.{Device, Centre}
-use Rattle.bench_base.specs.declared.refusals.CentreRefusal.{CentreRefusal}
-use Rattle.bench_base.specs.declared.refusals.Unread.{Unread}
-use Rattle.bench_base.specs.declared.ledger.Commit.{Commit}
-use Rattle.bench_base.specs.declared.events.Event.{Event}
+use Rattle.bench_base.specs.declared.{words.Node.Node, words.Verdict.Verdict, words.Node.TheVariants.Device, words.Node.TheVariants.Centre, refusals.CentreRefusal.CentreRefusal, refusals.Unread.Unread, ledger.Commit.Commit, events.Event.Event}
 use Rattle.bench_base.specs.declared.events.Reply.TheVariants as r
 use Rattle.bench_base.specs.Rules.{todays_rules}
 use Rattle.bench_base.specs.Nodes.{node_of}
@@ -19,14 +13,12 @@ use Rattle.bench_base.specs.Cells.{place_of}
 use Rattle.bench_base.specs.Cells as cells
 use Rattle.bench_base.specs.Ledger.{Ledger, day_in, count_of, counted, message}
 use Rattle.bench_base.specs.Events.{IsWholeEvent}
-use Rattle.node_acts.specs.declared.said.Said.{Said}
+use Rattle.node_acts.specs.declared.{said.Said.Said, asked.Asked.Asked, asked.Asked.TheVariants.Call}
 use Rattle.node_acts.specs.Plans.{IsOfNode}
 use Rattle.node_acts.specs.Kinds.{node_plan, OfCall}
 use Rattle.node_acts.specs.RowList.{commits_in}
 use Rattle.node_acts.specs.Said.{said_plan, seen_plan}
-use Rattle.psd_wire.specs.declared.message.Request.{Request}
-use Rattle.psd_wire.specs.declared.message.DoneMsg.{DoneMsg}
-use Rattle.psd_wire.specs.declared.message.Message.{Message}
+use Rattle.psd_wire.specs.declared.{message.Request.Request, message.DoneMsg.DoneMsg, message.Message.Message}
 use Rattle.psd_wire.specs.declared.message.Message.TheVariants as m
 use Rattle.psd_wire.specs.Grammar.{read}
 use Rattle.psd_wire.specs.Codes.{has_code}
@@ -34,9 +26,7 @@ use Rattle.ledger_terms.specs.Further.{SentAreRead, IsAddressed}
 use Rattle.ledger_laws.proofs.Histories.{message_sent}
 use Rattle.ledger_moves.specs.Tariffs.{Tariff}
 use Rattle.ledger_moves.specs.Moves.{plan, at_node, addressee, deliver_plan, give_plan}
-use Rattle.centre_ledger.specs.declared.rows.DeviceRow.{DeviceRow}
-use Rattle.centre_ledger.specs.declared.rows.CustomerRow.{CustomerRow}
-use Rattle.centre_ledger.specs.declared.taking.CentreAnswer.{CentreAnswer}
+use Rattle.centre_ledger.specs.declared.{rows.DeviceRow.DeviceRow, rows.CustomerRow.CustomerRow, taking.CentreAnswer.CentreAnswer}
 use Rattle.centre_ledger.specs.declared.taking.CentreAnswer.TheVariants as answer
 use Rattle.centre_ledger.specs.Rows.{deposited_row, settled_row}
 use Rattle.centre_ledger.specs.Answers.{deposit_answer, turn_answer, settle_answer}
@@ -51,8 +41,6 @@ use Rattle.centre_ledger.specs.Plans as told
 use Rattle.centre_ledger.specs.Plans.{says, in_commits, take_plan}
 use Rattle.centre_ledger.specs.Seen.{counting, cell_of, books_in, IsKnown}
 use Rattle.centre_ledger.proofs.Payers.{found_device}
-use Rattle.node_acts.specs.declared.asked.Asked.{Asked}
-use Rattle.node_acts.specs.declared.asked.Asked.TheVariants.{Call}
 use Rattle.node_acts.specs.Acts.{OfCommit}
 use Rattle.node_acts.proofs.OfCommits.{of_commit, of_both, commit_says}
 use Rattle.bench_abstraction.specs.declared.calls.CentreCall.{CentreCall}
@@ -71,7 +59,7 @@ use Rattle.bench_abstraction.proofs.Sent.{sent_many, sent_at}
 use Rattle.bench_abstraction.proofs.Shown.{centre_view}
 use Rattle.bench_abstraction.proofs.Steps.{IsQuiet, IsSaid, IsQuietAct, IsRight, quiet_says}
 
--- == whose the commits are, and where they lie ==
+-- == the node and the cell of each commit ==
 
 -- the commit of the act, if it makes one, is the centre's, and lies in the cell of its row
 abbrev IsPlacedAct : {A : Type 0} → CentreAct A → Type 0
@@ -202,7 +190,7 @@ module _ (H : Ledger) (known : IsKnown (seen_in (counted H))) (are : AreBooksOf 
   plans : in_books b ≡ in_commits C
   plans = planned b C known.sound are
 
-  -- an act of these rows whose commit, if it makes one, is the centre's, and leads to the rows after it
+  -- an act of these rows: its commit, if it makes one, is the centre's, and leads to the rows after it
   abbrev IsGood : {A : Type 0} → CentreAct A → Type 0
   IsGood act = IsPlacedAct act × FollowsCommits b C act
 

@@ -3,18 +3,15 @@ use Rattle.std.proofs.Common.{◌≡◌, ◌≢◌, ℕ, ◌+◌, ◌-◌, ◌<�
 use Rattle.std.specs.Prelude.{◌==◌, nat_lt, nat_le, get_or, set, if◌then◌else◌}
 use Rattle.std.proofs.lemmas.Bool.{eq-eqb, ne_eqb, lt-ltb, le-ltb, ltb-false}
 use Rattle.std.proofs.lemmas.List.{get_or-set_same, get_or-set_other}
-use Rattle.bench_base.specs.declared.sizes.TheConstants.{CENTRE_CELLS, MOST_COMMITS}
-use Rattle.bench_base.specs.declared.ledger.Commit.{Commit}
+use Rattle.bench_base.specs.declared.{sizes.TheConstants.CENTRE_CELLS, sizes.TheConstants.MOST_COMMITS, ledger.Commit.Commit}
 use Rattle.bench_base.specs.Ranges.{IsDevice, IsCustomer}
 use Rattle.bench_base.specs.Cells.{Place, OfDevice, OfRow, OfCustomer, OfJob, OfTrust, OfBlock, same_place, place_of}
 use Rattle.bench_base.specs.Cells as cells
 use Rattle.node_acts.specs.RowList.{row_at, put, commits_at}
 use Rattle.node_acts.specs.RowList as rows
 use Rattle.node_acts.specs.RowLaws.{put_listed}
-use Rattle.centre_ledger.specs.declared.rows.Row.{Row}
+use Rattle.centre_ledger.specs.declared.{rows.Row.Row, rows.DeviceRow.DeviceRow, rows.CustomerRow.CustomerRow}
 use Rattle.centre_ledger.specs.declared.rows.Row.TheVariants as row
-use Rattle.centre_ledger.specs.declared.rows.DeviceRow.{DeviceRow}
-use Rattle.centre_ledger.specs.declared.rows.CustomerRow.{CustomerRow}
 use Rattle.centre_ledger.specs.Books.{Books, ArePlaced, device_at, customer_at, put_row}
 use Rattle.centre_ledger.specs.ActLaws.{AreBooksOf}
 use Rattle.centre_ledger.specs.Order.{InOrder}

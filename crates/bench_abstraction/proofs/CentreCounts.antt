@@ -2,9 +2,7 @@
 use Rattle.std.proofs.Common.{◌≡◌, ℕ, zero, suc, ◌<◌, List, refl, ◌∙◌, ap, arith}
 use Rattle.std.specs.Prelude.{sum_by}
 use Rattle.std.proofs.lemmas.List.Sums.{sum_by-cons}
-use Rattle.bench_base.specs.declared.sizes.TheConstants.{CENTRE_CELLS}
-use Rattle.bench_base.specs.declared.words.Node.TheVariants.{Centre}
-use Rattle.bench_base.specs.declared.ledger.Commit.{Commit}
+use Rattle.bench_base.specs.declared.{sizes.TheConstants.CENTRE_CELLS, words.Node.TheVariants.Centre, ledger.Commit.Commit}
 use Rattle.bench_base.specs.Cells.{Place}
 use Rattle.bench_base.specs.Cells as cells
 use Rattle.bench_base.specs.Ledger.{count_of}

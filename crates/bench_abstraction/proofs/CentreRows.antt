@@ -6,8 +6,7 @@ use Rattle.std.proofs.lemmas.Bool.Decides.{nat_tests}
 use Rattle.std.proofs.lemmas.List.{get_or_past}
 use Rattle.std.proofs.lemmas.List.Elements.{All-head, All-tail}
 use Rattle.std.proofs.lemmas.Option.{same_Some}
-use Rattle.bench_base.specs.declared.sizes.TheConstants.{CENTRE_CELLS}
-use Rattle.bench_base.specs.declared.ledger.Commit.{Commit}
+use Rattle.bench_base.specs.declared.{sizes.TheConstants.CENTRE_CELLS, ledger.Commit.Commit}
 use Rattle.bench_base.specs.declared.ledger.Commit.TheVariants as c
 use Rattle.bench_base.specs.Ranges.{InRange, IsDevice, IsCustomer}
 use Rattle.bench_base.specs.Cells.{OfRow, OfCustomer, same_place, place_of}
@@ -17,9 +16,7 @@ use Rattle.node_acts.specs.RowList.{row_at}
 use Rattle.node_acts.specs.RowLaws.{listed_at}
 use Rattle.centre_ledger.specs.Rows.{is_withdrawn}
 use Rattle.ledger_terms.specs.Centres.{registered, enrolled, withdrawn, opened}
-use Rattle.centre_ledger.specs.declared.rows.DeviceRow.{DeviceRow}
-use Rattle.centre_ledger.specs.declared.rows.CustomerRow.{CustomerRow}
-use Rattle.centre_ledger.specs.declared.rows.Row.{Row}
+use Rattle.centre_ledger.specs.declared.{rows.DeviceRow.DeviceRow, rows.CustomerRow.CustomerRow, rows.Row.Row}
 use Rattle.centre_ledger.specs.declared.rows.Row.TheVariants as row
 use Rattle.centre_ledger.specs.Books.{Books, AreSound, IsDeviceOf, IsCustomerAt, device_at, customer_at}
 use Rattle.centre_ledger.specs.Books as books

@@ -4,24 +4,15 @@ use Rattle.std.specs.Prelude.{slice_get, ◌&&◌, nat_le}
 use Rattle.std.proofs.lemmas.Bool.Decides.{nat_tests}
 use Rattle.std.proofs.lemmas.Option.{none-some, same_Some}
 use Rattle.bench_base.specs.Ranges.{IsDevice}
-use Rattle.bench_base.specs.declared.words.Node.{Node}
-use Rattle.bench_base.specs.declared.words.Kind.{Kind}
-use Rattle.bench_base.specs.declared.words.Node.TheVariants.{Device, Centre, Host, Verifier}
-use Rattle.bench_base.specs.declared.events.Event.{Event}
+use Rattle.bench_base.specs.declared.{words.Node.Node, words.Kind.Kind, words.Node.TheVariants.Device, words.Node.TheVariants.Centre, words.Node.TheVariants.Host, words.Node.TheVariants.Verifier, events.Event.Event}
 use Rattle.bench_base.specs.declared.events.Event.TheVariants as ev
-use Rattle.node_acts.specs.declared.asked.Asked.{Asked}
-use Rattle.node_acts.specs.declared.asked.Asked.TheVariants.{On, Off, Cut, Call}
-use Rattle.bench_abstraction.specs.declared.calls.DeviceCall.{DeviceCall}
+use Rattle.node_acts.specs.declared.{asked.Asked.Asked, asked.Asked.TheVariants.On, asked.Asked.TheVariants.Off, asked.Asked.TheVariants.Cut, asked.Asked.TheVariants.Call}
+use Rattle.bench_abstraction.specs.declared.{calls.DeviceCall.DeviceCall, calls.CentreCall.CentreCall, calls.HostCall.HostCall, calls.VerifierCall.VerifierCall, routing.Routed.Routed, routing.OfDay.OfDay}
 use Rattle.bench_abstraction.specs.declared.calls.DeviceCall.TheVariants as device
-use Rattle.bench_abstraction.specs.declared.calls.CentreCall.{CentreCall}
 use Rattle.bench_abstraction.specs.declared.calls.CentreCall.TheVariants as call
-use Rattle.bench_abstraction.specs.declared.calls.HostCall.{HostCall}
 use Rattle.bench_abstraction.specs.declared.calls.HostCall.TheVariants as host
-use Rattle.bench_abstraction.specs.declared.calls.VerifierCall.{VerifierCall}
 use Rattle.bench_abstraction.specs.declared.calls.VerifierCall.TheVariants as verifier
-use Rattle.bench_abstraction.specs.declared.routing.Routed.{Routed}
 use Rattle.bench_abstraction.specs.declared.routing.Routed.TheVariants as route
-use Rattle.bench_abstraction.specs.declared.routing.OfDay.{OfDay}
 use Rattle.bench_abstraction.specs.declared.routing.OfDay.TheVariants as of_day
 use Rattle.bench_abstraction.specs.Tariff.{Quote}
 use Rattle.bench_abstraction.specs.Routing as routing
@@ -108,7 +99,7 @@ module _ (pool : List (List ℕ)) (quote : Quote) where
     pub deliver : (k : ℕ) → slice_get pool k ≡ None → P (ev.Deliver k) (route.OfDay (of_day.NoMessage k))
     pub scan : (n k : ℕ) → slice_get pool k ≡ None → P (ev.ScanMsg n k) (route.OfDay (of_day.NoMessage k))
 
-  -- P of each event, by whom it is for
+  -- P of each event, by the node that it is for
   pub record Each (R : Event → Routed → Type 0) (D : Event → ℕ → Asked DeviceCall → Type 0) (C : Event → Asked CentreCall → Type 0) (H : Event → Asked HostCall → Type 0) (V : Event → Asked VerifierCall → Type 0) : Type 0 where
     pub quiet : EachQuiet R
     pub devices : EachAsked D
@@ -116,7 +107,7 @@ module _ (pool : List (List ℕ)) (quote : Quote) where
     pub host : EachOfHost H
     pub verifier : EachOfVerifier V
 
-  -- what is routed, by whom it is for
+  -- what is routed, by the node that it is for
   abbrev ByNode : (Event → Routed → Type 0) → (Event → ℕ → Asked DeviceCall → Type 0) → (Event → Asked CentreCall → Type 0) → (Event → Asked HostCall → Type 0) → (Event → Asked VerifierCall → Type 0) → Event → Routed → Type 0
   ByNode R D C H V e (route.Day t) = R e (route.Day t)
   ByNode R D C H V e route.End = R e route.End

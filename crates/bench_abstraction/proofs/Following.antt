@@ -1,10 +1,6 @@
--- That an event of a node does what the node alone would do follows from its plan, its steps and what it leaves of the others.
+-- An event of a node does what the node alone would do, by its plan, its steps and what it leaves of the others.
 use Rattle.std.proofs.Common.{◌≡◌, ℤ, [], ◌∷◌, ◌++◌, Option, Some, true, sym, subst, option_map, ◌∙◌, ap}
-use Rattle.bench_base.specs.declared.words.Node.{Node}
-use Rattle.bench_base.specs.declared.words.Node.TheVariants.{Device, Centre, Host, Verifier}
-use Rattle.bench_base.specs.declared.ledger.Commit.{Commit}
-use Rattle.bench_base.specs.declared.events.Event.{Event}
-use Rattle.bench_base.specs.declared.events.Reply.{Reply}
+use Rattle.bench_base.specs.declared.{words.Node.Node, words.Node.TheVariants.Device, words.Node.TheVariants.Centre, words.Node.TheVariants.Host, words.Node.TheVariants.Verifier, ledger.Commit.Commit, events.Event.Event, events.Reply.Reply}
 use Rattle.bench_base.specs.Rules.{todays_rules}
 use Rattle.bench_base.specs.Nodes.{node_of}
 use Rattle.bench_base.specs.Plans.{Plan}

@@ -2,11 +2,7 @@
 use Rattle.std.proofs.Common.{◌≡◌, arith, ℕ, true, false, List, ◌∷◌, refl}
 use Rattle.std.specs.Prelude.{◌==◌}
 use Rattle.std.proofs.lemmas.Bool.{eqb-true, false_from_ne_true}
-use Rattle.bench_base.specs.declared.words.Kind.TheVariants.{Enrol}
-use Rattle.bench_base.specs.declared.words.Node.TheVariants.{Device, Centre, Host, Verifier}
-use Rattle.bench_base.specs.declared.sizes.TheConstants.{CENTRE_CELLS, VERIFIER_CELLS}
-use Rattle.bench_base.specs.declared.ledger.Commit.{Commit}
-use Rattle.bench_base.specs.declared.ledger.Commit.TheVariants.{Applied, Registered, Settled, Closed, Trusted}
+use Rattle.bench_base.specs.declared.{words.Kind.TheVariants.Enrol, words.Node.TheVariants.Device, words.Node.TheVariants.Centre, words.Node.TheVariants.Host, words.Node.TheVariants.Verifier, sizes.TheConstants.CENTRE_CELLS, sizes.TheConstants.VERIFIER_CELLS, ledger.Commit.Commit, ledger.Commit.TheVariants.Applied, ledger.Commit.TheVariants.Registered, ledger.Commit.TheVariants.Settled, ledger.Commit.TheVariants.Closed, ledger.Commit.TheVariants.Trusted}
 use Rattle.bench_base.specs.Nodes.{same_node, node_of}
 use Rattle.bench_base.proofs.Facts.{either, not_none}
 use Rattle.node_acts.specs.RowLaws.{listed_same}

@@ -1,13 +1,10 @@
 -- A Reply that a device is handed, with its code, is the one of its ruling: it was sent, since nothing is forged.
 use Rattle.std.proofs.Common.{◌≡◌, ℕ, List, Some, true, Result, Ok, subst, sym, ◌∙◌, ap}
-use Rattle.bench_base.specs.declared.words.Node.TheVariants.{Device}
-use Rattle.bench_base.specs.declared.refusals.Unread.{Unread}
-use Rattle.bench_base.specs.declared.events.Event.{Event}
+use Rattle.bench_base.specs.declared.{words.Node.TheVariants.Device, refusals.Unread.Unread, events.Event.Event}
 use Rattle.bench_base.specs.Ledger.{Ledger, IsSent, counted}
 use Rattle.node_acts.specs.declared.asked.Asked.{Asked}
 use Rattle.node_acts.specs.Kinds.{OfCall}
-use Rattle.psd_wire.specs.declared.message.ReplyMsg.{ReplyMsg}
-use Rattle.psd_wire.specs.declared.message.Message.{Message}
+use Rattle.psd_wire.specs.declared.{message.ReplyMsg.ReplyMsg, message.Message.Message}
 use Rattle.psd_wire.specs.declared.message.Message.TheVariants as m
 use Rattle.psd_wire.specs.Grammar.{read}
 use Rattle.psd_wire.specs.Codes.{has_code}
@@ -16,8 +13,7 @@ use Rattle.ledger_terms.specs.Rulings.{ruled_reply}
 use Rattle.ledger_terms.specs.Further.{RepliesAreRuled}
 use Rattle.ledger_laws.proofs.Histories.{message_sent}
 use Rattle.ledger_moves.specs.Histories.{Unforged, IsKnown}
-use Rattle.bench_abstraction.specs.declared.calls.DeviceCall.{DeviceCall}
-use Rattle.bench_abstraction.specs.declared.calls.DeviceCall.TheVariants.{Make, Debit, Ask, Resend, Ack, Status, Take}
+use Rattle.bench_abstraction.specs.declared.{calls.DeviceCall.DeviceCall, calls.DeviceCall.TheVariants.Make, calls.DeviceCall.TheVariants.Debit, calls.DeviceCall.TheVariants.Ask, calls.DeviceCall.TheVariants.Resend, calls.DeviceCall.TheVariants.Ack, calls.DeviceCall.TheVariants.Status, calls.DeviceCall.TheVariants.Take}
 use Rattle.bench_abstraction.specs.declared.routing.Routed.TheVariants as route
 use Rattle.bench_abstraction.specs.declared.routing.OfDay.TheVariants as of_day
 use Rattle.bench_abstraction.specs.Routing.{routed}

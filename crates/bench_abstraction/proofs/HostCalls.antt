@@ -1,12 +1,7 @@
 -- What the host is called for: its plan, its commit, and what is seen of it afterwards.
 use Rattle.std.proofs.Common.{◌≡◌, ℕ, ℤ, List, [], Option, Some, None, Result, Ok, Err, refl, sym, ◌∙◌, ap}
 use Rattle.std.specs.Prelude.{length, slice_get}
-use Rattle.bench_base.specs.declared.words.Node.{Node}
-use Rattle.bench_base.specs.declared.words.Node.TheVariants.{Host}
-use Rattle.bench_base.specs.declared.refusals.HostRefusal.{HostRefusal}
-use Rattle.bench_base.specs.declared.refusals.RateRefusal.{RateRefusal}
-use Rattle.bench_base.specs.declared.ledger.Commit.{Commit}
-use Rattle.bench_base.specs.declared.events.Event.{Event}
+use Rattle.bench_base.specs.declared.{words.Node.Node, words.Node.TheVariants.Host, refusals.HostRefusal.HostRefusal, refusals.RateRefusal.RateRefusal, ledger.Commit.Commit, events.Event.Event}
 use Rattle.bench_base.specs.declared.events.Reply.TheVariants as r
 use Rattle.bench_base.specs.Rules.{todays_rules}
 use Rattle.bench_base.specs.Nodes.{node_of}
@@ -15,10 +10,7 @@ use Rattle.bench_base.specs.Ranges.{IsDevice}
 use Rattle.bench_base.specs.Cells.{OfJob, place_of}
 use Rattle.bench_base.specs.Ledger.{Ledger, day_in, count_of, counted, message}
 use Rattle.bench_base.specs.Events.{IsWholeEvent}
-use Rattle.node_acts.specs.declared.act.Act.TheVariants.{Tell}
-use Rattle.node_acts.specs.declared.asked.Asked.{Asked}
-use Rattle.node_acts.specs.declared.asked.Asked.TheVariants.{Call}
-use Rattle.node_acts.specs.declared.said.Said.{Said}
+use Rattle.node_acts.specs.declared.{act.Act.TheVariants.Tell, asked.Asked.Asked, asked.Asked.TheVariants.Call, said.Said.Said}
 use Rattle.node_acts.specs.Plans.{IsOfNode}
 use Rattle.node_acts.specs.Kinds.{node_plan, OfCall}
 use Rattle.node_acts.specs.RowList.{commits_in}
@@ -57,7 +49,7 @@ use Rattle.bench_abstraction.proofs.Sent.{sent_many, sent_at}
 use Rattle.bench_abstraction.proofs.Shown.{host_view}
 use Rattle.bench_abstraction.proofs.Steps.{IsQuiet, IsQuietAct, IsRight, quiet_says}
 
--- == whose the commits are, and where they lie ==
+-- == the node and the cell of each commit ==
 
 -- the commit of the act, if it makes one, is the host's, and lies in the cell of its row
 abbrev IsPlacedAct : {A : Type 0} → HostAct A → Type 0
@@ -119,7 +111,7 @@ module _ (H : Ledger) (known : IsKnown (seen_after (counted H))) (turn : InTurn 
   plans : law.PlannedActs rows C
   plans = planned rows C known.sound are
 
-  -- an act of these rows whose commit, if it makes one, is the host's, and leads to the rows after it
+  -- an act of these rows: its commit, if it makes one, is the host's, and leads to the rows after it
   abbrev IsGood : {A : Type 0} → HostAct A → Type 0
   IsGood act = IsPlacedAct act × FollowsCommits rows C act
 

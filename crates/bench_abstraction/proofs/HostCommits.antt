@@ -2,9 +2,7 @@
 use Rattle.std.proofs.Common.{◌≡◌, ℕ, List, Option, None, sym, ◌∙◌, ap, arith}
 use Rattle.std.specs.Prelude.{nat_le}
 use Rattle.std.proofs.lemmas.List.FromFn.{length-map-range_with_len, get_or-map-range_with_len}
-use Rattle.bench_base.specs.declared.sizes.TheConstants.{MOST_COMMITS}
-use Rattle.bench_base.specs.declared.words.Node.TheVariants.{Host}
-use Rattle.bench_base.specs.declared.ledger.Commit.{Commit}
+use Rattle.bench_base.specs.declared.{sizes.TheConstants.MOST_COMMITS, words.Node.TheVariants.Host, ledger.Commit.Commit}
 use Rattle.bench_base.specs.Cells.{Place, OfJob, place_of}
 use Rattle.bench_base.specs.Cells as cells
 use Rattle.bench_base.specs.Ledger.{count_of}
@@ -13,8 +11,7 @@ use Rattle.node_acts.specs.RowList as rows
 use Rattle.node_acts.specs.RowLaws.{listed_at, listed_is}
 use Rattle.ledger_laws.specs.Places.{host_places, CellsAddUp}
 use Rattle.ledger_laws.specs.Places as places
-use Rattle.host_jobs.specs.declared.rows.JobRow.{JobRow}
-use Rattle.host_jobs.specs.declared.sizes.TheConstants.{HOST_CELLS}
+use Rattle.host_jobs.specs.declared.{rows.JobRow.JobRow, sizes.TheConstants.HOST_CELLS}
 use Rattle.host_jobs.specs.Records.{cell_after, seen_after}
 use Rattle.host_jobs.specs.Seen.{cell_of, IsKnown}
 use Rattle.host_jobs.specs.SeenLaws.{SeenLaws}

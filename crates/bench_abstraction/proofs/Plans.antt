@@ -2,17 +2,11 @@
 use Rattle.std.proofs.Common.{◌≡◌, ◌≢◌, ℕ, ℤ, ◌∷◌, arith, List, [], Option, Some, None, Result, Ok, Err, refl, sym, ◌∙◌, ap, subst, if◌then◌else◌, rules}
 use Rattle.bench_base.proofs.Rows.{first}
 use Rattle.std.specs.Prelude.{length, ◌+◌, ◌==◌, IfSome, slice_get}
-use Rattle.bench_base.specs.declared.words.Kind.{Kind}
-use Rattle.bench_base.specs.declared.words.Node.{Node}
-use Rattle.bench_base.specs.declared.words.Node.TheVariants.{Device}
-use Rattle.bench_base.specs.declared.refusals.DevRefusal.{DevRefusal}
+use Rattle.bench_base.specs.declared.{words.Kind.Kind, words.Node.Node, words.Node.TheVariants.Device, refusals.DevRefusal.DevRefusal, refusals.Unread.Unread, ledger.Commit.Commit, events.Event.Event}
 use Rattle.bench_base.specs.declared.ledger.Entry.TheVariants as entry
 use Rattle.std.proofs.lemmas.Bool.{ne_eqb}
 use Rattle.std.proofs.lemmas.Option.{same_Some}
-use Rattle.bench_base.specs.declared.refusals.Unread.{Unread}
-use Rattle.bench_base.specs.declared.ledger.Commit.{Commit}
 use Rattle.bench_base.specs.declared.ledger.Commit.TheVariants as c
-use Rattle.bench_base.specs.declared.events.Event.{Event}
 use Rattle.bench_base.specs.Rules.{todays_rules}
 use Rattle.bench_base.specs.Nodes.{node_of}
 use Rattle.bench_base.specs.Plans.{Plan, told}
@@ -20,9 +14,7 @@ use Rattle.bench_base.specs.Plans as plans
 use Rattle.bench_base.specs.declared.events.Reply.TheVariants as r
 use Rattle.bench_base.specs.Cells.{OfDevice, place_of}
 use Rattle.bench_base.specs.Ledger.{Ledger, day_in, counted, messages, message}
-use Rattle.psd_wire.specs.declared.message.DebitMsg.{DebitMsg}
-use Rattle.psd_wire.specs.declared.message.ReplyMsg.{ReplyMsg}
-use Rattle.psd_wire.specs.declared.message.Message.{Message}
+use Rattle.psd_wire.specs.declared.{message.DebitMsg.DebitMsg, message.ReplyMsg.ReplyMsg, message.Message.Message}
 use Rattle.psd_wire.specs.declared.message.Message.TheVariants as m
 use Rattle.psd_wire.specs.Grammar.{read}
 use Rattle.ledger_terms.specs.Devices.{key_of, pending, number, waiting}
@@ -31,13 +23,10 @@ use Rattle.psd_state.specs.Records.{IsRecordOf, IsOutstanding, state_of}
 use Rattle.psd_state.specs.Answers.{debit_answer, ask_answer, apply_answer, resend_answer, done_answer}
 use Rattle.psd_state.proofs.Decisions.{asks_below}
 use Rattle.psd_state.specs.Laws.{ResendingRepeats}
-use Rattle.psd_state.specs.declared.debiting.Debited.{Debited}
-use Rattle.psd_state.specs.declared.debiting.Debited.TheVariants.{New, Again}
-use Rattle.psd_state.specs.declared.acts.Taken.{Taken}
+use Rattle.psd_state.specs.declared.{debiting.Debited.Debited, debiting.Debited.TheVariants.New, debiting.Debited.TheVariants.Again, acts.Taken.Taken}
 use Rattle.psd_state.specs.declared.acts.Taken.TheVariants as taken_as
 use Rattle.psd_state.specs.Acts.{DeviceAct, make_act, franked_act, debit_act, asked_act, ask_act, applied_act, reply_rows, reply_act, message_act, take_act, told_act, resend_act, ack_act, status_act}
-use Rattle.node_acts.specs.declared.act.Act.{Act}
-use Rattle.node_acts.specs.declared.asked.Asked.{Asked as AskedOf}
+use Rattle.node_acts.specs.declared.{act.Act.Act, asked.Asked.Asked as AskedOf}
 use Rattle.node_acts.specs.Kinds.{node_plan}
 use Rattle.node_acts.specs.Plans.{IsOfNode}
 use Rattle.node_acts.specs.Said.{tells, saying, said_plan, seen_plan}
@@ -48,8 +37,7 @@ use Rattle.ledger_moves.specs.Tariffs.{Tariff}
 use Rattle.ledger_moves.specs.Devices as device
 use Rattle.ledger_moves.specs.Devices.{record_in, record_with}
 use Rattle.ledger_moves.specs.Moves.{plan, at_node, debit_by, addressee, deliver_plan, give_plan}
-use Rattle.bench_abstraction.specs.declared.calls.DeviceCall.{DeviceCall}
-use Rattle.bench_abstraction.specs.declared.calls.DeviceCall.TheVariants.{Make, Debit, Ask, Resend, Ack, Status, Take}
+use Rattle.bench_abstraction.specs.declared.{calls.DeviceCall.DeviceCall, calls.DeviceCall.TheVariants.Make, calls.DeviceCall.TheVariants.Debit, calls.DeviceCall.TheVariants.Ask, calls.DeviceCall.TheVariants.Resend, calls.DeviceCall.TheVariants.Ack, calls.DeviceCall.TheVariants.Status, calls.DeviceCall.TheVariants.Take}
 use Rattle.bench_abstraction.specs.declared.routing.Routed.TheVariants as route
 use Rattle.bench_abstraction.specs.declared.routing.OfDay.TheVariants as of_day
 use Rattle.bench_abstraction.specs.Routing as routing
@@ -63,7 +51,7 @@ use Rattle.bench_abstraction.proofs.Events.{each_asked, same_taker}
 use Rattle.bench_abstraction.proofs.Sent.{sent_many, sent_at}
 use Rattle.bench_abstraction.proofs.Shown.{device_view}
 
--- == whose the commit is ==
+-- == the node of each commit ==
 
 module _ (d : ℕ) where
   make_own : (key : List ℕ) (s : Option State) → IsOfNode (Device d) (make_act d key s)

@@ -2,15 +2,11 @@
 use Rattle.std.proofs.Common.{◌≡◌, inl, inr, ◌⊎◌, ℕ, ℤ, List, [], ◌∷◌, Some, None, true, refl, sym, ◌+◌, Option, Bool, false, ◌∙◌, ap}
 use Rattle.std.specs.Prelude.{if◌then◌else◌}
 use Rattle.std.proofs.lemmas.Option.{none-some, same_Some}
-use Rattle.bench_base.specs.declared.events.Event.{Event}
+use Rattle.bench_base.specs.declared.{events.Event.Event, words.Node.Node, words.Node.TheVariants.Device, words.Node.TheVariants.Centre, ledger.Commit.Commit, events.Reply.Reply}
 use Rattle.bench_base.specs.Events.{needs_day}
 use Rattle.bench_base.specs.Plans.{refuse, told, Plan}
 use Rattle.bench_base.specs.Rules.{todays_rules}
 use Rattle.bench_base.specs.Ledger.{Ledger, day_in, is_on, counted}
-use Rattle.bench_base.specs.declared.words.Node.{Node}
-use Rattle.bench_base.specs.declared.words.Node.TheVariants.{Device, Centre}
-use Rattle.bench_base.specs.declared.ledger.Commit.{Commit}
-use Rattle.bench_base.specs.declared.events.Reply.{Reply}
 use Rattle.bench_base.specs.declared.ledger.Entry.TheVariants as entry
 use Rattle.bench_base.specs.declared.events.Event.TheVariants as ev
 use Rattle.bench_base.specs.declared.events.Reply.TheVariants as r
@@ -24,11 +20,10 @@ use Rattle.centre_ledger.specs.Acts.{CentreAct, LookUps, in_books, stood_act, st
 use Rattle.centre_ledger.specs.Plans.{says, told_standing, in_commits}
 use Rattle.centre_ledger.specs.Seen.{books_in}
 use Rattle.centre_ledger.specs.declared.standing.Standing.{Standing}
-use Rattle.bench_abstraction.specs.declared.routing.Routed.{Routed}
+use Rattle.bench_abstraction.specs.declared.{routing.Routed.Routed, routing.OfDay.OfDay}
 use Rattle.bench_abstraction.specs.Tariff.{Quote}
 use Rattle.bench_abstraction.specs.Routing.{routed, as_given}
 use Rattle.bench_abstraction.proofs.Events.{each_quiet, IsOfNone}
-use Rattle.bench_abstraction.specs.declared.routing.OfDay.{OfDay}
 use Rattle.bench_abstraction.specs.Comparing.{stood, compared, compare}
 use Rattle.bench_abstraction.specs.Follows.{quiet_by}
 use Rattle.bench_abstraction.specs.Kinds.{bench_kinds}

@@ -2,10 +2,9 @@
 use Rattle.std.proofs.Common.{◌≡◌, ℕ, ℤ, List, [], ◌∷◌, length, Option, Some, None, Bool, true, false, Result, Ok, Err, refl, sym, ◌∙◌, ap, subst, if◌then◌else◌}
 use Rattle.std.specs.Prelude.{option_and_then, nat_lt, ok_or}
 use Rattle.bench_base.specs.declared.ledger.Entry.TheVariants as entry
-use Rattle.bench_base.specs.declared.events.Event.{Event}
+use Rattle.bench_base.specs.declared.{events.Event.Event, refusals.RateRefusal.RateRefusal}
 use Rattle.bench_base.specs.declared.events.Event.TheVariants as ev
 use Rattle.bench_base.specs.declared.events.Reply.TheVariants as r
-use Rattle.bench_base.specs.declared.refusals.RateRefusal.{RateRefusal}
 use Rattle.bench_base.specs.Plans.{Plan, refuse, told}
 use Rattle.bench_base.specs.Rules.{todays_rules}
 use Rattle.bench_base.specs.Ledger.{Ledger, day_in, rates_in}
@@ -25,7 +24,7 @@ use Rattle.bench_abstraction.specs.Messages.{sent_in}
 use Rattle.bench_abstraction.specs.Routing.{routed}
 use Rattle.bench_abstraction.specs.declared.routing.Routed.{Routed}
 
--- == what is told of a text ==
+-- == what is reported of a text ==
 
 -- what it is reported as, as a plan
 abbrev pub plan_of : List ℕ → Result RateTable RatesFail → Plan

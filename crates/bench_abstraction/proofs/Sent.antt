@@ -3,10 +3,8 @@ use Rattle.std.proofs.Common.{◌≡◌, ◌≢◌, inl, inr, ℕ, zero, suc, �
 use Rattle.std.specs.Prelude.{slice_get}
 use Rattle.std.proofs.lemmas.Bool.{cases_eq, eq-eqb, ne_eqb}
 use Rattle.std.proofs.lemmas.List.{append_assoc, length_push}
-use Rattle.bench_base.specs.declared.ledger.Commit.{Commit}
-use Rattle.bench_base.specs.declared.ledger.Entry.{Entry}
+use Rattle.bench_base.specs.declared.{ledger.Commit.Commit, ledger.Entry.Entry, words.Node.Node}
 use Rattle.bench_base.specs.declared.ledger.Entry.TheVariants as entry
-use Rattle.bench_base.specs.declared.words.Node.{Node}
 use Rattle.bench_base.specs.Plans.{Plan}
 use Rattle.bench_base.specs.Replies.{ReplyClass, Did, Refused, Armed, CameOn, WentOff, LostPower, Faulted, WasDamaged, PrinterFailed, RatesFailed}
 use Rattle.bench_base.specs.Ledger.{Ledger, messages, message}
@@ -30,7 +28,7 @@ get_before [] x (suc k) differs = refl
 get_before (y ∷ xs) x zero differs = refl
 get_before (y ∷ xs) x (suc k) differs = get_before xs x k (λ is. differs (omega (arith, is)))
 
--- each stands at its number
+-- each message is at its number
 pub sent_at : (H : Ledger) (k : ℕ) → slice_get (sent_in H) k ≡ message k H
 sent_at [] k = refl
 sent_at (entry.Sent bytes ∷ H) k = elim (cases_eq k (messages H)) [

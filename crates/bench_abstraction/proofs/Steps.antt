@@ -1,30 +1,23 @@
--- The ways in which an event of a node goes: what it is answered, the commit that it makes, and the ledger afterwards. The node
--- is m, of any kind; its record after some commits is as seen says.
+-- What can become of an event of a node: its answer, the commit that it makes, and the ledger afterwards. The node is m, of
+-- any kind; its record after some commits is as seen says.
 use Rattle.std.proofs.Common.{◌≡◌, ℕ, Bool, true, false, List, [], ◌∷◌, ◌++◌, Option, Some, None, cond, refl, sym, ap, subst, ◌∙◌, ◌⊎◌, inl, inr, ⊎_elim}
 use Rattle.std.specs.Prelude.{◌+◌}
 use Rattle.std.proofs.lemmas.Option.{none-some, same_Some}
-use Rattle.bench_base.specs.declared.words.Node.{Node}
-use Rattle.bench_base.specs.declared.ledger.Commit.{Commit}
-use Rattle.bench_base.specs.declared.ledger.Entry.{Entry}
+use Rattle.bench_base.specs.declared.{words.Node.Node, ledger.Commit.Commit, ledger.Entry.Entry, events.Reply.Reply}
 use Rattle.bench_base.specs.declared.ledger.Entry.TheVariants as entry
-use Rattle.bench_base.specs.declared.events.Reply.{Reply}
 use Rattle.bench_base.specs.declared.events.Reply.TheVariants as r
 use Rattle.bench_base.specs.Nodes.{node_of}
 use Rattle.bench_base.specs.Plans.{Plan, refuse, made, told}
 use Rattle.bench_base.specs.Replies.{ReplyClass, Did, Refused, Armed, LostPower, Faulted, PrinterFailed, class_of}
 use Rattle.bench_base.specs.Ledger.{Ledger, is_on, counted}
-use Rattle.node_acts.specs.declared.act.Act.{Act}
-use Rattle.node_acts.specs.declared.act.Act.TheVariants.{Refuse, Tell, Commits}
-use Rattle.node_acts.specs.declared.said.Said.{Said}
-use Rattle.node_acts.specs.declared.said.GivenOut.{GivenOut}
-use Rattle.node_acts.specs.declared.said.GivenOut.TheVariants.{Released, Printed}
+use Rattle.node_acts.specs.declared.{act.Act.Act, act.Act.TheVariants.Refuse, act.Act.TheVariants.Tell, act.Act.TheVariants.Commits, said.Said.Said, said.GivenOut.GivenOut, said.GivenOut.TheVariants.Released, said.GivenOut.TheVariants.Printed}
 use Rattle.node_acts.specs.Said.{saying, seen_plan, tells, with_sent, with_given}
 use Rattle.node_acts.specs.Views.{Counting, View, committed, torn}
 use Rattle.node_acts.specs.Acts.{commit_in, commit_of, OfCommit}
 use Rattle.node_acts.specs.Plans.{with_commit, after, after_told, Fails, FailsTold, MayFail, MayReply, done_plan, view_after, view_told}
 use Rattle.node_acts.specs.Kinds.{view_in}
 
--- entries that tell of what was done
+-- entries that report what was done
 abbrev pub AreTold : List Entry → Type 0
 AreTold [] = Unit {0}
 AreTold (entry.Released d piece mark ∷ T) = AreTold T
@@ -32,7 +25,7 @@ AreTold (entry.Sent note ∷ T) = AreTold T
 AreTold (entry.Printed job mark ∷ T) = AreTold T
 AreTold (_ ∷ T) = ⊥
 
--- what a node says is told so
+-- what a node says is such entries
 pub said_told : (given : Option GivenOut) (sent : Option (List ℕ)) → AreTold (with_sent sent ++ with_given given)
 said_told None None = tt
 said_told None (Some note) = tt
@@ -53,7 +46,7 @@ pub data Step {S X : Type 0} (n : Counting S X) (m : Node) (seen : List Commit �
 
 -- == answers ==
 
--- the reply tells that what was asked for was done, or refused, and nothing else
+-- the reply reports only that the request was done, or that it was refused
 abbrev pub IsPlain : ReplyClass → Type 0
 IsPlain Did = Unit {0}
 IsPlain Refused = Unit {0}
@@ -75,7 +68,7 @@ plain_still n _ v h = absurd h
 abbrev pub IsQuiet : Reply → Type 0
 IsQuiet y = IsPlain (class_of y)
 
--- what is said tells that it was done
+-- what is said reports that the request was done
 abbrev pub IsSaid : Said → Type 0
 IsSaid a = class_of a.reply ≡ Did
 
@@ -139,7 +132,7 @@ module _ {S X : Type 0} (n : Counting S X) (m : Node) (seen : List Commit → S)
   by_answer : (x y : Reply) (p : Plan) (made : Option (Commit × S)) → x ≡ y → IsPlain (class_of y) → Goes y made (p.after ++ with_commit p.commit H) → Goes x made (after p x H)
   by_answer x y p made is plain goes = subst (λ (z : Reply). Goes z made (after p z H)) (sym is) (subst (Goes y made) (sym (plain_after (class_of y) p H plain)) goes)
 
-  -- where the printer fails nothing is told, and the commit is as it is
+  -- if the printer fails nothing is reported, and the commit is as it is
   unprinted : (x : Reply) (p : Plan) → p.commit ≡ None → PrinterFails x → Goes x None (after p x H)
   unprinted x p none (j, is) = subst (λ (t : ReplyClass). Goes x None (after_told p t H)) (sym is)
       (subst (λ (o : Option Commit). Goes x None (with_commit o H)) (sym none) (does_tell [] tt (λ v. ap (λ (t : ReplyClass). view_told n t None v) is)))

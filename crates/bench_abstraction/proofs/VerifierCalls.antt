@@ -1,11 +1,7 @@
 -- What the verifier is called for: its plan, its commit, and what is seen of it afterwards.
 use Rattle.std.proofs.Common.{◌≡◌, ℕ, ℤ, List, [], Option, Some, refl, sym, ◌∙◌, ap}
 use Rattle.std.specs.Prelude.{drop, nat_le}
-use Rattle.bench_base.specs.declared.words.Node.TheVariants.{Verifier}
-use Rattle.bench_base.specs.declared.sizes.TheConstants.{MOST_COMMITS}
-use Rattle.bench_base.specs.declared.refusals.ScanRefusal.{ScanRefusal}
-use Rattle.bench_base.specs.declared.ledger.Commit.{Commit}
-use Rattle.bench_base.specs.declared.events.Event.{Event}
+use Rattle.bench_base.specs.declared.{words.Node.TheVariants.Verifier, sizes.TheConstants.MOST_COMMITS, refusals.ScanRefusal.ScanRefusal, ledger.Commit.Commit, events.Event.Event}
 use Rattle.bench_base.specs.declared.events.Reply.TheVariants as r
 use Rattle.bench_base.specs.Rules.{todays_rules}
 use Rattle.bench_base.specs.Plans.{Plan}
@@ -14,9 +10,7 @@ use Rattle.bench_base.specs.Ranges.{IsDevice, IsKey, IsCount}
 use Rattle.bench_base.specs.Cells as cells
 use Rattle.bench_base.specs.Ledger.{Ledger, day_in, count_of, counted}
 use Rattle.bench_base.specs.Events.{IsWholeEvent}
-use Rattle.node_acts.specs.declared.asked.Asked.{Asked}
-use Rattle.node_acts.specs.declared.asked.Asked.TheVariants.{Call}
-use Rattle.node_acts.specs.declared.said.Said.{Said}
+use Rattle.node_acts.specs.declared.{asked.Asked.Asked, asked.Asked.TheVariants.Call, said.Said.Said}
 use Rattle.node_acts.specs.Plans.{IsOfNode}
 use Rattle.node_acts.specs.Kinds.{node_plan, OfCall}
 use Rattle.node_acts.specs.RowList.{row_at, commits_at, commits_in}
@@ -78,7 +72,7 @@ module _ (H : Ledger) (recorded : IsRecorded (counted H)) (known : IsKnown (seen
   plans : PlannedActs C
   plans = planned C recorded
 
-  -- an act of these rows whose commit, if it makes one, is the verifier's, and leads to the rows after it
+  -- an act of these rows: its commit, if it makes one, is the verifier's, and leads to the rows after it
   abbrev IsGood : {A : Type 0} → ScanAct A → Type 0
   IsGood act = LeavesSound s act × FollowsCommits C act
 

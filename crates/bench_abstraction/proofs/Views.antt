@@ -1,14 +1,10 @@
--- What is seen of each node, and of all else, after an event of one node. The node is m, of any kind; its record after some
--- commits is as seen says.
+-- What is seen of each node, of the day and of the rates, after an event of one node. The node is m, of any kind; its
+-- record after some commits is as seen says.
 use Rattle.std.proofs.Common.{◌≡◌, ℕ, Bool, true, false, List, [], ◌∷◌, ◌++◌, Option, Some, None, cond, refl, sym, ap, ◌∙◌, true≢false, option_map}
 use Rattle.std.specs.Prelude.{◌==◌, ◌+◌, ◌≢◌}
 use Rattle.std.proofs.lemmas.Bool.{ne_eqb}
-use Rattle.bench_base.specs.declared.words.Node.{Node}
-use Rattle.bench_base.specs.declared.words.Node.TheVariants.{Device, Centre, Host, Verifier}
-use Rattle.bench_base.specs.declared.ledger.Commit.{Commit}
-use Rattle.bench_base.specs.declared.ledger.Entry.{Entry}
+use Rattle.bench_base.specs.declared.{words.Node.Node, words.Node.TheVariants.Device, words.Node.TheVariants.Centre, words.Node.TheVariants.Host, words.Node.TheVariants.Verifier, ledger.Commit.Commit, ledger.Entry.Entry, events.Reply.Reply}
 use Rattle.bench_base.specs.declared.ledger.Entry.TheVariants as entry
-use Rattle.bench_base.specs.declared.events.Reply.{Reply}
 use Rattle.bench_base.specs.Nodes.{same_node, node_of}
 use Rattle.bench_base.specs.Ledger.{Ledger, is_on, count_of, torn_of, at_up, counted}
 pub use Rattle.bench_base.proofs.Facts.{same_node_self}
@@ -30,7 +26,7 @@ same_apart _ _ ne = refl
 abbrev seen_by : {S : Type 0} → (List Commit → S) → List Commit → Option Commit → Bool → View S
 seen_by seen C t on = record { state = seen C; next = option_map (λ c. seen (c ∷ C)) t; on = on }
 
--- what is told changes nothing that is seen
+-- entries that report what was done change nothing that is seen
 told_view : {S : Type 0} (i : Node) (seen : List Commit → S) (T : List Entry) (H : Ledger) → AreTold T → view_in i seen (T ++ H) ≡ view_in i seen H
 told_view i seen [] H h = refl
 told_view i seen (entry.Released d piece mark ∷ T) H h = told_view i seen T H h
@@ -110,7 +106,7 @@ module _ (H : Ledger) (opens : (n : Node) (c : Commit) → torn_of n H ≡ Some 
       others x made new next (boots k) = rw (same_apart m i ne) (other_boot k (torn_of m H) refl)
       others x made new next stops = rw (same_apart m i ne) refl
 
-  -- == all else ==
+  -- == the day and the rates ==
 
   pub rests : {S X : Type 0} (n : Counting S X) (m : Node) (seen : List Commit → S) → (x : Reply) (made : Option (Commit × S)) (new : Ledger) → Step n m seen H x made new → Rests H new
   rests n m seen x made new (does_tell T are still) = told_rests T H H are (record { day = refl; rates = refl })

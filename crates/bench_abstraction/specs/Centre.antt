@@ -1,15 +1,10 @@
 -- The centre, as the ledger shows it to the bench, and what a call of it does by that alone. Amounts are in mills.
 use Rattle.std.specs.Prelude.{ℕ, ◌+◌, ◌-◌, List, Option, option_map, nat_lt, if◌then◌else◌}
-use Rattle.bench_base.specs.declared.words.Node.TheVariants.{Centre}
-use Rattle.bench_base.specs.declared.sizes.TheConstants.{CENTRE_CELLS}
-use Rattle.bench_base.specs.declared.ledger.Commit.{Commit}
-use Rattle.bench_base.specs.declared.events.Reply.{Reply}
+use Rattle.bench_base.specs.declared.{words.Node.TheVariants.Centre, sizes.TheConstants.CENTRE_CELLS, ledger.Commit.Commit, events.Reply.Reply}
 use Rattle.bench_base.specs.Cells.{Place, OfRow, OfCustomer}
 use Rattle.bench_base.specs.Cells as cells
 use Rattle.bench_base.specs.Table.{IsBytes}
-use Rattle.node_acts.specs.declared.act.Act.{Act}
-use Rattle.node_acts.specs.declared.asked.Asked.{Asked}
-use Rattle.node_acts.specs.declared.said.Said.{Said}
+use Rattle.node_acts.specs.declared.{act.Act.Act, asked.Asked.Asked, said.Said.Said}
 use Rattle.node_acts.specs.Said.{kind_by}
 use Rattle.node_acts.specs.Kinds.{Kind, OfCall}
 use Rattle.node_acts.specs.RowList.{listed}

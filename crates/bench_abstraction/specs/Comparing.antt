@@ -1,8 +1,6 @@
 -- The event that compares a device with the centre, by what is seen of the two. The device answers before the centre.
 use Rattle.std.specs.Prelude.{ℕ, ◌+◌, Option, Some, None, if◌then◌else◌}
-use Rattle.bench_base.specs.declared.words.Node.TheVariants.{Device, Centre}
-use Rattle.bench_base.specs.declared.refusals.DevRefusal.TheVariants.{Blank}
-use Rattle.bench_base.specs.declared.events.Reply.{Reply}
+use Rattle.bench_base.specs.declared.{words.Node.TheVariants.Device, words.Node.TheVariants.Centre, refusals.DevRefusal.TheVariants.Blank, events.Reply.Reply}
 use Rattle.bench_base.specs.declared.events.Reply.TheVariants as r
 use Rattle.node_acts.specs.declared.act.Act.TheVariants.{Refuse, Tell, Commits}
 use Rattle.node_acts.specs.Views.{View}

@@ -1,16 +1,10 @@
 -- A device, as the ledger shows it to the bench, and what a call of it does by that alone.
 use Rattle.std.specs.Prelude.{ℕ, ℤ, ◌+◌, ◌≤◌, Bool, List, [], Option, Some, None, IfSome, ◌==◌, if◌then◌else◌}
-use Rattle.bench_base.specs.declared.words.Node.TheVariants.{Device}
-use Rattle.bench_base.specs.declared.sizes.TheConstants.{MOST_COMMITS}
-use Rattle.bench_base.specs.declared.ledger.Commit.{Commit}
-use Rattle.bench_base.specs.declared.events.DevView.{DevView}
-use Rattle.bench_base.specs.declared.events.Reply.{Reply}
+use Rattle.bench_base.specs.declared.{words.Node.TheVariants.Device, sizes.TheConstants.MOST_COMMITS, ledger.Commit.Commit, events.DevView.DevView, events.Reply.Reply}
 use Rattle.bench_base.specs.declared.events.Reply.TheVariants as r
 use Rattle.bench_base.specs.Rules.{todays_rules}
 use Rattle.bench_base.specs.Ledger.{count_of}
-use Rattle.node_acts.specs.declared.act.Act.{Act}
-use Rattle.node_acts.specs.declared.said.Said.{Said}
-use Rattle.node_acts.specs.declared.said.GivenOut.TheVariants.{Released}
+use Rattle.node_acts.specs.declared.{act.Act.Act, said.Said.Said, said.GivenOut.TheVariants.Released}
 use Rattle.node_acts.specs.Said.{replies, gives, sends, saying, kind_by}
 use Rattle.node_acts.specs.Kinds.{Kind}
 use Rattle.psd_wire.specs.declared.message.Message.TheVariants as m
@@ -18,13 +12,11 @@ use Rattle.psd_wire.specs.Grammar.{spell}
 use Rattle.psd_state.specs.State.{State, Holds}
 use Rattle.psd_state.specs.Seen.{Seen, counting}
 use Rattle.psd_state.specs.Acts.{DeviceAct, make_act, debit_act, ask_act, resend_act, ack_act, status_act, take_act}
-use Rattle.psd_state.specs.declared.acts.Franked.{Franked}
-use Rattle.psd_state.specs.declared.acts.Taken.{Taken}
+use Rattle.psd_state.specs.declared.{acts.Franked.Franked, acts.Taken.Taken}
 use Rattle.psd_state.specs.declared.acts.Taken.TheVariants as taken
 use Rattle.ledger_moves.specs.Devices.{record_in}
 use Rattle.ledger_moves.specs.Moves.{debit_by}
-use Rattle.bench_abstraction.specs.declared.calls.DeviceCall.{DeviceCall}
-use Rattle.bench_abstraction.specs.declared.calls.DeviceCall.TheVariants.{Make, Debit, Ask, Resend, Ack, Status, Take}
+use Rattle.bench_abstraction.specs.declared.{calls.DeviceCall.DeviceCall, calls.DeviceCall.TheVariants.Make, calls.DeviceCall.TheVariants.Debit, calls.DeviceCall.TheVariants.Ask, calls.DeviceCall.TheVariants.Resend, calls.DeviceCall.TheVariants.Ack, calls.DeviceCall.TheVariants.Status, calls.DeviceCall.TheVariants.Take}
 
 abbrev pub seen_in : ℕ → List Commit → Seen
 seen_in d C = record { count = count_of (Device d) C; state = record_in d C }

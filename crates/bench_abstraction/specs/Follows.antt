@@ -1,10 +1,6 @@
 -- How the ledger and what the bench sees of its nodes go together: by an event of one node.
 use Rattle.std.specs.Prelude.{◌≡◌, ◌≢◌, ℕ, ℤ, ◌++◌, [], true, Option, Some, None, IfSome, option_map}
-use Rattle.bench_base.specs.declared.words.Node.{Node}
-use Rattle.bench_base.specs.declared.words.Node.TheVariants.{Device, Centre, Host, Verifier}
-use Rattle.bench_base.specs.declared.ledger.Commit.{Commit}
-use Rattle.bench_base.specs.declared.events.Event.{Event}
-use Rattle.bench_base.specs.declared.events.Reply.{Reply}
+use Rattle.bench_base.specs.declared.{words.Node.Node, words.Node.TheVariants.Device, words.Node.TheVariants.Centre, words.Node.TheVariants.Host, words.Node.TheVariants.Verifier, ledger.Commit.Commit, events.Event.Event, events.Reply.Reply}
 use Rattle.bench_base.specs.declared.events.Reply.TheVariants as r
 use Rattle.bench_base.specs.Rules.{todays_rules, editions}
 use Rattle.bench_base.specs.Nodes.{node_of}
@@ -52,8 +48,9 @@ module _ {N S X C : Type 0} (n : Counting S X) (kind : Kind N S C) (m : Node) (d
   commit_by today asked H = node_commit (kind.commit d today (view_by H)) asked
 
   module _ {D E F G : Type 0} (kinds : Kinds D E F G) (τ : Tariff) (H : Ledger) (e : Event) (today : ℤ) (asked : Asked C) where
-    -- By this reply: it is a move of the ledger; what is seen of the node afterwards; of each other node the same is seen as before,
-    -- and so of all else; and the messages of the run are those before, and what the event sent.
+    -- What follows from this reply. It is a move of the ledger. The record says what is seen of the node afterwards; each
+    -- other node, the day and the rates are seen as before. The messages of the run are those before, and then what the
+    -- event sent.
     pub record Replied (reply : Reply) : Type 0 where
       pub moves : Moves τ todays_rules H e [] reply
       pub here : view_by (entries τ todays_rules H e [] reply) ≡ view_after n reply (commit_by today asked H) (view_by H)
@@ -70,11 +67,13 @@ module _ {N S X C : Type 0} (n : Counting S X) (kind : Kind N S C) (m : Node) (d
       pub own : (x : Commit × S) → commit_by today asked H ≡ Some x → (node_of x.0 ≡ m) × (is_on m H ≡ true)
       pub replied : (reply : Reply) → MayReply n m (view_by H) (plan_by today asked H) reply → Replied reply
 
-  -- it follows for each event of the node, on a day, at each history in which its record is one that storage can show, and is one
-  -- after the commit too
+  -- it follows for each event of the node, on a day, at each history, if storage can show the node's record there and after
+  -- the commit
   abbrev pub FollowsAlways : {D E F G : Type 0} → Kinds D E F G → (Asked C → OfDay) → (Asked C → Type 0) → (S → Type 0) → Type 0
-  FollowsAlways kinds work_of IsWhole Fits = (τ : Tariff) (H : Ledger) (e : Event) (today : ℤ) (asked : Asked C) → History τ editions H → Unforged e H → day_in H ≡ Some today
-      → IsWholeEvent e → routed (sent_in H) (quote_in τ H) e ≡ Some (route.OfDay (work_of asked)) → IsWhole asked → Fits (view_by H).state → IfSome (commit_by today asked H) (λ x. Fits x.1)
+  FollowsAlways kinds work_of IsWhole Fits = (τ : Tariff) (H : Ledger) (e : Event) (today : ℤ) (asked : Asked C) → History τ editions H → Unforged e H
+      → day_in H ≡ Some today
+      → IsWholeEvent e → routed (sent_in H) (quote_in τ H) e ≡ Some (route.OfDay (work_of asked)) → IsWhole asked → Fits (view_by H).state
+      → IfSome (commit_by today asked H) (λ x. Fits x.1)
       → Follows kinds τ H e today asked
 
 -- an event of a device, of the centre, of the host or of the verifier does what the node alone would do, and changes that node alone
@@ -109,4 +108,5 @@ quiet_by kinds H x = quiet_reply kinds (λ d. view_in (Device d) (kinds.devices.
 -- on a day, its plan is that reply alone, where the centre's record is one that storage can show
 abbrev pub OthersAreQuiet : {D C H V : Type 0} → Kinds D C H V → (C → Type 0) → Type 0
 OthersAreQuiet kinds IsSound = (τ : Tariff) (H : Ledger) (e : Event) (today : ℤ) (x : OfDay) (reply : Reply) → History τ editions H → day_in H ≡ Some today
-    → routed (sent_in H) (quote_in τ H) e ≡ Some (route.OfDay x) → IsSound (view_in Centre (kinds.centre.seen tt) H).state → quiet_by kinds H x ≡ Some reply → plan τ todays_rules H e [] ≡ refuse reply
+    → routed (sent_in H) (quote_in τ H) e ≡ Some (route.OfDay x) → IsSound (view_in Centre (kinds.centre.seen tt) H).state
+    → quiet_by kinds H x ≡ Some reply → plan τ todays_rules H e [] ≡ refuse reply

@@ -1,8 +1,6 @@
 -- The host, as the ledger shows it to the bench, and what a call of it does by that alone. Postage is in mills.
-use Rattle.bench_base.specs.declared.words.Node.TheVariants.{Host}
-use Rattle.bench_base.specs.declared.events.Reply.{Reply}
-use Rattle.node_acts.specs.declared.act.Act.{Act}
-use Rattle.node_acts.specs.declared.said.Said.{Said}
+use Rattle.bench_base.specs.declared.{words.Node.TheVariants.Host, events.Reply.Reply}
+use Rattle.node_acts.specs.declared.{act.Act.Act, said.Said.Said}
 use Rattle.node_acts.specs.Said.{kind_by}
 use Rattle.node_acts.specs.Kinds.{Kind}
 use Rattle.host_jobs.specs.declared.rows.JobRow.{JobRow}

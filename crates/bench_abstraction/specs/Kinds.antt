@@ -7,17 +7,14 @@ use Rattle.psd_state.specs.Seen as device
 use Rattle.centre_ledger.specs.Seen as centre
 use Rattle.host_jobs.specs.Seen as host
 use Rattle.verifier.specs.Seen as verifier
-use Rattle.bench_abstraction.specs.declared.calls.DeviceCall.{DeviceCall}
-use Rattle.bench_abstraction.specs.declared.calls.CentreCall.{CentreCall}
-use Rattle.bench_abstraction.specs.declared.calls.HostCall.{HostCall}
-use Rattle.bench_abstraction.specs.declared.calls.VerifierCall.{VerifierCall}
+use Rattle.bench_abstraction.specs.declared.{calls.DeviceCall.DeviceCall, calls.CentreCall.CentreCall, calls.HostCall.HostCall, calls.VerifierCall.VerifierCall}
 use Rattle.bench_abstraction.specs.Devices.{device_kind}
 use Rattle.bench_abstraction.specs.Centre.{centre_kind}
 use Rattle.bench_abstraction.specs.Host.{host_kind}
 use Rattle.bench_abstraction.specs.Verifier.{verifier_kind}
 use Rattle.bench_abstraction.specs.Comparing.{compare}
 
--- whose records are D, C, H and V
+-- the four kinds of nodes, with records D, C, H and V, and what compares two of them
 pub record Kinds (D C H V : Type 0) : Type 0 where
   pub devices : Kind ℕ D DeviceCall
   pub centre : Kind (Unit {0}) C CentreCall

@@ -1,7 +1,6 @@
 -- The messages of a run, as the ledger shows them to the bench: the first that was sent first.
 use Rattle.std.specs.Prelude.{ℕ, ◌≤◌, List, [], ◌∷◌, ◌++◌, length}
-use Rattle.bench_base.specs.declared.ledger.Entry.{Entry}
-use Rattle.bench_base.specs.declared.ledger.Entry.TheVariants.{Sent, Begin}
+use Rattle.bench_base.specs.declared.{ledger.Entry.Entry, ledger.Entry.TheVariants.Sent, ledger.Entry.TheVariants.Begin}
 use Rattle.bench_base.specs.Ledger.{Ledger}
 
 abbrev pub sent_in : Ledger → List (List ℕ)
@@ -16,7 +15,7 @@ SendsNone [] = Unit {0}
 SendsNone (Sent bytes ∷ T) = ⊥
 SendsNone (_ ∷ T) = SendsNone T
 
--- what one event adds, the newest first: at most three entries, of which only the newest is a message
+-- what one event adds, the newest first: at most three entries, and only the newest may be a message
 abbrev pub IsFew : List Entry → Type 0
 IsFew [] = Unit {0}
 IsFew (x ∷ T) = (length T ≤ 2) × SendsNone T

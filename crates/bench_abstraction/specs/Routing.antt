@@ -1,27 +1,20 @@
 -- The events that the bench takes: whom each is for, and what it asks. The pool is the messages of the run, the first that was sent
 -- first; the quote is what a piece costs by the rates of the run.
 use Rattle.std.specs.Prelude.{ℕ, ◌&&◌, List, drop, length, slice_get, Option, Some, None, nat_le, if◌then◌else◌}
-use Rattle.bench_base.specs.declared.words.Node.{Node}
-use Rattle.bench_base.specs.declared.words.Node.TheVariants.{Device, Centre, Host, Verifier}
-use Rattle.bench_base.specs.declared.events.Event.{Event}
+use Rattle.bench_base.specs.declared.{words.Node.Node, words.Node.TheVariants.Device, words.Node.TheVariants.Centre, words.Node.TheVariants.Host, words.Node.TheVariants.Verifier, events.Event.Event}
 use Rattle.bench_base.specs.declared.events.Event.TheVariants as ev
 use Rattle.bench_base.specs.Events.{About, NoMessage, Delivered, ScannedAs, needs}
-use Rattle.node_acts.specs.declared.asked.Asked.{Asked}
-use Rattle.node_acts.specs.declared.asked.Asked.TheVariants.{On, Off, Cut, Call}
+use Rattle.node_acts.specs.declared.{asked.Asked.Asked, asked.Asked.TheVariants.On, asked.Asked.TheVariants.Off, asked.Asked.TheVariants.Cut, asked.Asked.TheVariants.Call}
 use Rattle.node_acts.specs.Kinds.{OfCall}
 use Rattle.psd_wire.specs.Grammar.{read}
 use Rattle.host_jobs.specs.ActLaws.{IsPrice}
 use Rattle.ledger_moves.specs.Moves.{addressee}
 use Rattle.bench_abstraction.specs.Tariff.{Quote}
-use Rattle.bench_abstraction.specs.declared.calls.DeviceCall.{DeviceCall}
+use Rattle.bench_abstraction.specs.declared.{calls.DeviceCall.DeviceCall, calls.CentreCall.CentreCall, calls.HostCall.HostCall, calls.VerifierCall.VerifierCall, routing.Routed.Routed}
 use Rattle.bench_abstraction.specs.declared.calls.DeviceCall.TheVariants as device
-use Rattle.bench_abstraction.specs.declared.calls.CentreCall.{CentreCall}
 use Rattle.bench_abstraction.specs.declared.calls.CentreCall.TheVariants as centre
-use Rattle.bench_abstraction.specs.declared.calls.HostCall.{HostCall}
 use Rattle.bench_abstraction.specs.declared.calls.HostCall.TheVariants as host
-use Rattle.bench_abstraction.specs.declared.calls.VerifierCall.{VerifierCall}
 use Rattle.bench_abstraction.specs.declared.calls.VerifierCall.TheVariants as verifier
-use Rattle.bench_abstraction.specs.declared.routing.Routed.{Routed}
 use Rattle.bench_abstraction.specs.declared.routing.Routed.TheVariants as route
 use Rattle.bench_abstraction.specs.declared.routing.OfDay.TheVariants as of_day
 
@@ -103,7 +96,8 @@ routed pool quote (ev.Flag w suspended) = Some (of_centre (centre.Flag (record {
 routed pool quote (ev.Balance w) = Some (of_centre (centre.Balance (record { customer = w })))
 routed pool quote (ev.Deliver k) = message_taken k (length pool) (slice_get pool k)
 routed pool quote (ev.Give n bytes) = given_to n bytes (length pool)
-routed pool quote (ev.Order d piece class grams zone) = Some (of_host (host.Order (record { device = d; piece = piece; class = class; grams = grams; zone = zone; price = quote class grams zone })))
+routed pool quote (ev.Order d piece class grams zone) = Some
+    (of_host (host.Order (record { device = d; piece = piece; class = class; grams = grams; zone = zone; price = quote class grams zone })))
 routed pool quote (ev.Send j) = Some (of_host (host.Send (record { job = j; message = length pool })))
 routed pool quote (ev.Print j) = Some (of_host (host.Print (record { job = j })))
 routed pool quote (ev.Close j) = Some (of_host (host.Close (record { job = j })))

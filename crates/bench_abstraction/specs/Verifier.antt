@@ -1,11 +1,8 @@
 -- The verifier, as the ledger shows it to the bench, and what a call of it does by that alone.
 use Rattle.std.specs.Prelude.{ℤ}
-use Rattle.bench_base.specs.declared.words.Node.TheVariants.{Verifier}
-use Rattle.bench_base.specs.declared.events.Reply.{Reply}
+use Rattle.bench_base.specs.declared.{words.Node.TheVariants.Verifier, events.Reply.Reply}
 use Rattle.bench_base.specs.Table.{IsBytes}
-use Rattle.node_acts.specs.declared.act.Act.{Act}
-use Rattle.node_acts.specs.declared.asked.Asked.{Asked}
-use Rattle.node_acts.specs.declared.said.Said.{Said}
+use Rattle.node_acts.specs.declared.{act.Act.Act, asked.Asked.Asked, said.Said.Said}
 use Rattle.node_acts.specs.Said.{kind_by}
 use Rattle.node_acts.specs.Kinds.{Kind, OfCall}
 use Rattle.verifier.specs.declared.acts.Change.{Change}

@@ -64,7 +64,7 @@ pub struct ResendCall {
     pub message: u32,
 }
 
-/// That the last transaction was applied is sent.
+/// The message that the last transaction was applied is sent.
 #[derive(Drop)]
 pub struct AckCall {
     pub message: u32,

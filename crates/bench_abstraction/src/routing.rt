@@ -24,11 +24,11 @@ use psd_wire::{Message, read_message};
 pub enum Routed<'a> {
     Day(DayNo),
     End,
-    /// All else, which is refused where there is no day.
+    /// Every other event; it is refused if there is no day.
     OfDay(OfDay<'a>),
 }
 
-/// What is done on a day, by whom it is for.
+/// What is done on a day, by the node that it is for.
 #[derive(Drop)]
 pub enum OfDay<'a> {
     Rates,
@@ -93,7 +93,7 @@ fn to_scanner<'a>(number: u32, bytes: &'a [u8]) -> Routed<'a>
     }))
 }
 
-// The device of this number, or the centre if there is none. Each message that was sent names one of 1 to 8.
+// The device of this number, or the centre if no device has this number. Each message that was sent names one of 1 to 8.
 fn device_node(device: u32) -> Node
     ensures { result ≡ routing.device_node device }
 {

@@ -1,4 +1,4 @@
--- Tables of rows of which the first that holds counts, and a choice between two.
+-- Tables of rows that take the first row that holds, and a choice between two.
 use Rattle.std.proofs.Common.{◌≡◌, Bool, true, false, List, [], ◌∷◌, cond, IsErr, Result, Ok, Err, refl, sym, true≢false}
 use Rattle.std.specs.Prelude.{if◌then◌else◌}
 use Rattle.bench_base.specs.Rows.{first_holding}
@@ -23,7 +23,7 @@ pub first : {A : Type 0} (P : A → Type 0) (rows : List (Bool × A)) (a : A) �
 first P [] a each last = last tt
 first P (row ∷ rows) a each last = chosen P row.0 row.1 (first_holding rows a) (λ _. each.0) (λ e. first P rows a each.1 (λ h. last (e, h)))
 
--- the same, where a row has to tell only if it holds
+-- the same, if P is needed only of the rows that hold
 abbrev pub RowsHold : {A : Type 0} → (A → Type 0) → List (Bool × A) → Type 0
 RowsHold P [] = Unit {0}
 RowsHold P (row ∷ rows) = (row.0 ≡ true → P row.1) × RowsHold P rows

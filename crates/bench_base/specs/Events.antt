@@ -1,11 +1,7 @@
--- What an event needs, what it may do, and in which ranges its numbers lie: two tables with a row for every event.
+-- What an event needs, what it may do, and the ranges of its numbers: two tables with a row for every event.
 use Rattle.std.specs.Prelude.{◌≡◌, ℕ, ℤ, ◌≤◌, ◌<◌, ◌^◌, Bool, true, false, Option, Some, None}
-use Rattle.bench_base.specs.declared.words.Node.{Node}
-use Rattle.bench_base.specs.declared.words.Node.TheVariants.{Device, Centre, Host, Verifier}
-use Rattle.bench_base.specs.declared.events.Event.{Event}
+use Rattle.bench_base.specs.declared.{words.Node.Node, words.Node.TheVariants.Device, words.Node.TheVariants.Centre, words.Node.TheVariants.Host, words.Node.TheVariants.Verifier, events.Event.Event, questions.Brought.Brought, questions.Brought.TheVariants.Nothing, questions.Brought.TheVariants.Handed, questions.Brought.TheVariants.Scanned}
 use Rattle.bench_base.specs.declared.events.Event.TheVariants as ev
-use Rattle.bench_base.specs.declared.questions.Brought.{Brought}
-use Rattle.bench_base.specs.declared.questions.Brought.TheVariants.{Nothing, Handed, Scanned}
 use Rattle.bench_base.specs.Ranges.{IsDevice, IsCustomer, IsDay, IsWord, IsKey, IsNode, IsAsk, IsGiven, TakesBytes}
 
 -- the message of the run that an event is about
@@ -134,7 +130,7 @@ set_or (Some t) today = Some t
 abbrev pub day_after : Event → Option ℤ → Option ℤ
 day_after e today = set_or (needs e).sets today
 
--- an event for this node, or for one that a message tells, may be one of node n
+-- an event for this node, or for the node that a message names, may be one of node n
 abbrev pub IsAt : Option Node → Node → Type 0
 IsAt None n = Unit {0}
 IsAt (Some m) n = m ≡ n

@@ -1,9 +1,6 @@
 -- A ledger is a list of entries, the newest first. This is what the bench sees of it, and the commits in it that count.
 use Rattle.std.specs.Prelude.{◌≡◌, ℕ, ℤ, ◌+◌, Bool, true, false, List, [], ◌∷◌, Option, Some, None, ◌==◌, ◌⊎◌, if◌then◌else◌}
-use Rattle.bench_base.specs.declared.words.Node.{Node}
-use Rattle.bench_base.specs.declared.ledger.Commit.{Commit}
-use Rattle.bench_base.specs.declared.ledger.Entry.{Entry}
-use Rattle.bench_base.specs.declared.ledger.Entry.TheVariants.{Commit as Counts, Torn, Begin, Day, Rates, Sent, Released, Printed, Up, Down}
+use Rattle.bench_base.specs.declared.{words.Node.Node, ledger.Commit.Commit, ledger.Entry.Entry, ledger.Entry.TheVariants.Commit as Counts, ledger.Entry.TheVariants.Torn, ledger.Entry.TheVariants.Begin, ledger.Entry.TheVariants.Day, ledger.Entry.TheVariants.Rates, ledger.Entry.TheVariants.Sent, ledger.Entry.TheVariants.Released, ledger.Entry.TheVariants.Printed, ledger.Entry.TheVariants.Up, ledger.Entry.TheVariants.Down}
 use Rattle.bench_base.specs.Nodes.{same_node, node_of}
 
 -- a ledger, the newest entry first
@@ -83,7 +80,8 @@ torn_of n (Torn m c ∷ H) = if same_node m n then Some c else torn_of n H
 torn_of n (Up m k ∷ H) = if same_node m n then None else torn_of n H
 torn_of n (_ ∷ H) = torn_of n H
 
--- the commits that count behind an Up of node n that shows k: the open commit counts if and only if k is one more than the commits of n before
+-- the commits that count after an Up of node n that shows k: the open commit counts if and only if k is one more than the
+-- commits of n before
 abbrev pub at_up : Option Commit → Node → ℕ → List Commit → List Commit
 at_up None n k C = C
 at_up (Some c) n k C = if k == count_of n C + 1 then c ∷ C else C

@@ -1,4 +1,4 @@
--- Bytes of a fixed size whose end is zeros.
+-- Bytes that are padded with zeros to a fixed size.
 use Rattle.std.specs.Prelude.{◌≡◌, ℕ, ◌-◌, ◌≤◌, List, ◌++◌, length, take, drop, replicate, refl}
 use Rattle.std.proofs.Common.{sym, ◌∙◌, ap, arith, take-append-drop, length-append}
 use Rattle.std.proofs.lemmas.List.{length-take-le, drop-replicate, length-replicate, drop_at}

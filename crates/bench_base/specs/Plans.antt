@@ -1,8 +1,6 @@
 -- What an event does where nothing fails.
 use Rattle.std.specs.Prelude.{List, [], Option, Some, None}
-use Rattle.bench_base.specs.declared.ledger.Commit.{Commit}
-use Rattle.bench_base.specs.declared.ledger.Entry.{Entry}
-use Rattle.bench_base.specs.declared.events.Reply.{Reply}
+use Rattle.bench_base.specs.declared.{ledger.Commit.Commit, ledger.Entry.Entry, events.Reply.Reply}
 
 -- the answer, the commit of the one node that makes one, and the entries after that commit, the newest first
 pub record Plan : Type 0 where

@@ -1,14 +1,8 @@
--- What each reply tells of, what it reports besides, and which events may get it: three tables with a row for every reply.
+-- What each reply states, what it reports besides, and which events may get it: three tables with a row for every reply.
 use Rattle.std.specs.Prelude.{◌≡◌, ◌≢◌, ◌⊎◌, ◌||◌, ℕ, Bool, true, false, List, Option, Some, None, is_some}
-use Rattle.bench_base.specs.declared.words.Kind.{Kind}
-use Rattle.bench_base.specs.declared.words.Node.{Node}
-use Rattle.bench_base.specs.declared.words.Node.TheVariants.{Device, Centre, Host, Verifier}
-use Rattle.bench_base.specs.declared.events.Event.{Event}
+use Rattle.bench_base.specs.declared.{words.Kind.Kind, words.Node.Node, words.Node.TheVariants.Device, words.Node.TheVariants.Centre, words.Node.TheVariants.Host, words.Node.TheVariants.Verifier, events.Event.Event, events.Reply.Reply, questions.Refusal.TheVariants.Device as OfDevice, questions.Refusal.TheVariants.Centre as OfCentre, questions.Refusal.TheVariants.Host as OfHost, questions.Refusal.TheVariants.Verifier as OfVerifier, questions.Report.Report}
 use Rattle.bench_base.specs.declared.events.Event.TheVariants as ev
-use Rattle.bench_base.specs.declared.events.Reply.{Reply}
 use Rattle.bench_base.specs.declared.events.Reply.TheVariants as r
-use Rattle.bench_base.specs.declared.questions.Refusal.TheVariants.{Device as OfDevice, Centre as OfCentre, Host as OfHost, Verifier as OfVerifier}
-use Rattle.bench_base.specs.declared.questions.Report.{Report}
 use Rattle.bench_base.specs.declared.questions.Report.TheVariants as report
 use Rattle.bench_base.specs.Nodes.{same_node}
 use Rattle.bench_base.specs.Events.{node_for, needs_day, needs_on, may_commit, IsAt}
@@ -131,12 +125,12 @@ report_of (r.CentreRefused why) = report.Refusal (OfCentre why)
 report_of (r.HostRefused why) = report.Refusal (OfHost why)
 report_of (r.ScanRefused why) = report.Refusal (OfVerifier why)
 
--- == what a reply tells of ==
+-- == what a reply states ==
 
 pub record Telling : Type 0 where
   -- the event was refused: by the bench, or by the node
   pub refused : Bool
-  -- the node at which power was cut, whose storage failed, whose fuse was armed
+  -- the node that lost power, the node with a failed storage, and the node with a fuse that was armed
   pub power : Option Node
   pub fault : Option Node
   pub armed : Option Node
@@ -221,7 +215,7 @@ leaves_on t was = set_on (telling t).on was
 abbrev pub on_after : Reply → Bool → Bool
 on_after reply was = leaves_on (class_of reply) was
 
--- == which events may get it, whatever the storages tell ==
+-- == which events may get it, whether or not the storages expose their contents ==
 
 -- the event is a call of this node, or of the one that a message is for
 pub record Calls (e : Event) (n : Node) : Type 0 where

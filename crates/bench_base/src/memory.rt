@@ -7,7 +7,7 @@ ghost use Rattle.bench_base.specs.Causes.{HasCause};
 use crate::stream::{ReadFail, Sink, Source, WriteFail};
 use std::marker::Model;
 
-/// A source that gives its bytes in pieces. Reads are numbered from 0, and those whose number is listed fail.
+/// A source that gives its bytes in pieces. Reads are numbered from 0, and those with a listed number fail.
 #[derive(Drop)]
 pub struct MemSource {
     bytes: Vec<u8>,

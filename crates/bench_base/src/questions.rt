@@ -12,7 +12,7 @@ use crate::numbers::{Customer, DayNo, DevNo};
 use crate::refusals::{CentreRefusal, DevRefusal, HostRefusal, ScanRefusal};
 use crate::words::{Node, Verdict};
 
-/// What an event brings from outside.
+/// What an event takes as input from outside.
 #[derive(Clone, Copy)]
 pub enum Brought {
     Nothing,
@@ -66,7 +66,7 @@ pub enum Report {
     },
     /// A device took the ruling.
     Verdict(Verdict),
-    /// The job whose mark was printed.
+    /// The mark of this job was printed.
     Print(u32),
     /// A piece was accepted; whether it was before.
     Acceptance(bool),
@@ -87,7 +87,7 @@ impl Event {
         true
     }
 
-    /// The job whose mark it is to print; None if and only if it is no `print`.
+    /// The job with the mark to print; None if and only if the event is not a `print`.
     pub fn print_job(&self) -> Option<u32>
         ensures found { IfSome result (λ j. self.now ≡ ev.Print j) }
         ensures none { IfNone result ((j : ℕ) → self.now ≢ ev.Print j) }
@@ -109,7 +109,7 @@ impl Event {
         Some(*scan)
     }
 
-    /// What it brings from outside.
+    /// What it takes as input from outside.
     pub fn brings(&self) -> Brought
         ensures { result ≡ brought_by self.now }
     {
@@ -156,7 +156,7 @@ impl Reply {
         true
     }
 
-    /// The job whose mark was printed; None if and only if it does not say so.
+    /// The job with the mark that was printed; None if and only if the reply does not say so.
     pub fn printed_job(&self) -> Option<u32>
         ensures found { IfSome result (λ j. self.now ≡ r.Printed j) }
         ensures none { IfNone result ((j : ℕ) → self.now ≢ r.Printed j) }

@@ -16,7 +16,7 @@ pub struct WriteFail;
 
 /// Bytes that are read from the front on. The answer 0 to a buffer that isn't empty is the end.
 pub trait Source {
-    /// The bytes that are left, where they are told.
+    /// The bytes that are left, if the source exposes them.
     ghost left: { Self → Option (List ℕ) };
 
     /// The count of faults, which never falls.
@@ -30,7 +30,7 @@ pub trait Source {
 
 /// A taker of bytes. It may take a part of what it is given; that it takes none of some is a fault.
 pub trait Sink {
-    /// The bytes that were taken, where they are told.
+    /// The bytes that were taken, if the sink exposes them.
     ghost taken: { Self → Option (List ℕ) };
 
     /// The count of faults, which never falls.

@@ -8,7 +8,7 @@ use Rattle.centre_ledger.specs.Books.{Books, AreSound, put_row}
 use Rattle.host_jobs.specs.Acts.{HostAct}
 use Rattle.host_jobs.specs.ActLaws as host
 use Rattle.host_jobs.specs.Rows.{Jobs}
-use Rattle.host_jobs.specs.Soundness.{IsDerived, IsNext}
+use Rattle.host_jobs.specs.Soundness.{AreSound as AreSoundJobs, IsDerived, IsNext}
 use Rattle.host_jobs.specs.declared.kept.Kept.{Kept}
 use Rattle.verifier.specs.Acts.{ScanAct}
 use Rattle.verifier.specs.ActLaws as verifier
@@ -37,3 +37,8 @@ put_fit {A} s act is leaves = subst (λ (a : ScanAct A). ChangesBy (λ x. verifi
 -- what is kept of these jobs is kept of those that are read
 pub kept_of : {rows jobs : Jobs} {kept : Kept} → rows ≡ jobs → IsDerived jobs kept → IsDerived rows kept
 kept_of {kept = kept} same is = subst (λ (w : Jobs). IsDerived w kept) (sym same) is
+
+-- as put_next, of jobs of which this is kept: they are sound
+pub put_made : {A : Type 0} {rows jobs : Jobs} {kept : Kept} → rows ≡ jobs → IsDerived jobs kept → (act : HostAct A) {result : HostAct A} → result ≡ act
+    → (AreSoundJobs rows → host.LeavesSound rows act) → ChangesBy (λ x. IsNext jobs x) result
+put_made {rows = rows} {jobs = jobs} same derived act is leaves = put_next rows jobs same act is (leaves (kept_of same derived).sound)

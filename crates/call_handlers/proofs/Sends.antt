@@ -1,7 +1,6 @@
 -- What a device sends is said by its number.
 use Rattle.std.proofs.Common.{◌≡◌, ℕ, List, refl}
-use Rattle.bench_base.specs.declared.refusals.DevRefusal.{DevRefusal}
-use Rattle.bench_base.specs.declared.events.Reply.{Reply}
+use Rattle.bench_base.specs.declared.{refusals.DevRefusal.DevRefusal, events.Reply.Reply}
 use Rattle.node_acts.specs.declared.act.Act.TheVariants.{Refuse, Tell, Commits}
 use Rattle.node_acts.specs.Said.{saying, sends}
 use Rattle.psd_state.specs.Acts.{DeviceAct}

@@ -3,19 +3,13 @@ use Rattle.std.proofs.Common.{◌≡◌, ℕ, pos, ◌+ℤ◌, Bool, true, false
 use Rattle.std.specs.Prelude.{◌&&◌, not, is_some, if◌then◌else◌}
 use Rattle.bench_base.specs.Kinds.{is_dated, same_kind}
 use Rattle.bench_base.specs.Rows.{first_holding}
-use Rattle.bench_base.specs.declared.words.Kind.TheVariants.{Enrol}
-use Rattle.bench_base.specs.declared.words.Verdict.{Verdict}
-use Rattle.bench_base.specs.declared.words.Verdict.TheVariants.{Granted, NotEnrolled}
-use Rattle.bench_base.specs.declared.ledger.Commit.{Commit}
+use Rattle.bench_base.specs.declared.{words.Kind.TheVariants.Enrol, words.Verdict.Verdict, words.Verdict.TheVariants.Granted, words.Verdict.TheVariants.NotEnrolled, ledger.Commit.Commit}
 use Rattle.psd_wire.specs.declared.message.Request.{Request}
 use Rattle.psd_wire.specs.declared.message.Message.TheVariants as m
 use Rattle.psd_wire.specs.Grammar.{spell}
 use Rattle.ledger_terms.specs.Centres.{registered, origin_in, key_in, enrolled, withdrawn, opened, suspended, balance}
 use Rattle.ledger_terms.specs.Rulings.{Account, account_of, verdict, verdict_by, verdict_rows, has_left, own_customer, payer, written_amount, reply_to, reply_note}
-use Rattle.centre_ledger.specs.declared.rows.DeviceRow.{DeviceRow}
-use Rattle.centre_ledger.specs.declared.rows.CustomerRow.{CustomerRow}
-use Rattle.centre_ledger.specs.declared.rows.Enrolment.{Enrolment}
-use Rattle.centre_ledger.specs.declared.rows.Enrolment.TheVariants.{Registered, Enrolled, Withdrawn}
+use Rattle.centre_ledger.specs.declared.{rows.DeviceRow.DeviceRow, rows.CustomerRow.CustomerRow, rows.Enrolment.Enrolment, rows.Enrolment.TheVariants.Registered, rows.Enrolment.TheVariants.Enrolled, rows.Enrolment.TheVariants.Withdrawn}
 use Rattle.centre_ledger.specs.Acts.{payer_in, own_left, verdict_in, ruled_in}
 use Rattle.centre_ledger.specs.Laws.{IsSlotOf, IsCustomerSlotOf}
 use Rattle.centre_ledger.specs.Order.{InOrder}
@@ -63,7 +57,7 @@ enrolled_is (Some w) false = refl
 
 -- == a ruling ==
 
--- a device that was never enrolled is none that was withdrawn; but it hasn't left any the less
+-- a device that was never enrolled was not withdrawn, but it counts as one that has left all the same
 left_is : (w : Option ℕ) (gone : Bool) → has_left w (is_withdrawn (enrolment_of w gone)) ≡ has_left w gone
 left_is None gone = refl
 left_is (Some w) true = refl
@@ -123,7 +117,7 @@ module _ (C : List Commit) (order : InOrder C) (q : Request) (x : ℕ × List �
   pub verdict_is : verdict_in (in_commits C) r q ≡ (verdict C q).0
   verdict_is = ap (λ (y : Verdict × ℕ). y.0) verdict_so
 
-  -- and so is the Reply that is sent
+  -- and the Reply that is sent is the one that the ledger plans
   pub reply_is : (bytes : List ℕ) → registered q.device C ≡ Some x → (ruled_in (in_commits C) r q bytes).reply ≡ reply_note C q
   unfolding reply_to
   reply_is bytes known = λ i. spell (m.Reply (same i)) (key_in (sym known i))

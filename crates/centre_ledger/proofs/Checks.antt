@@ -1,9 +1,7 @@
 -- What the checks of a row that was read have found.
 use Rattle.std.proofs.Common.{◌≡◌, ℕ, List, Some, None, Ok, sym, ap, ◌∙◌, subst}
 use Rattle.std.proofs.lemmas.Option.{same_Some, none-some}
-use Rattle.psd_wire.specs.declared.message.Request.{Request}
-use Rattle.psd_wire.specs.declared.message.ReplyMsg.{ReplyMsg}
-use Rattle.psd_wire.specs.declared.message.Message.{Message}
+use Rattle.psd_wire.specs.declared.{message.Request.Request, message.ReplyMsg.ReplyMsg, message.Message.Message}
 use Rattle.psd_wire.specs.declared.message.Message.TheVariants as m
 use Rattle.psd_wire.specs.Grammar.{IsWhole, spell, read}
 use Rattle.psd_wire.proofs.Readings.{read_spell}

@@ -1,12 +1,10 @@
--- The numbers of a payload, as they are read one by one, and the zeros behind them.
+-- The numbers of a payload, as they are read one by one, and the zeros after them.
 use Rattle.std.proofs.Common.{◌≡◌, ℕ, ◌+◌, if◌then◌else◌, List, [], ◌∷◌, length, take, drop, get_or, replicate, refl, sym, ap, ap₂, ◌∙◌, subst, arith, ◌↔◌, ne_eqb}
 use Rattle.std.proofs.lemmas.List.{take_all, length-drop}
 use Rattle.bench_base.specs.Table.{One, Four, Eight, number, bytes_in, values}
 use Rattle.psd_wire.specs.Grammar.{sum_size}
 use Rattle.psd_wire.proofs.Readings.{byte_of}
-use Rattle.centre_ledger.specs.declared.rows.DeviceRow.{DeviceRow}
-use Rattle.centre_ledger.specs.declared.rows.Enrolment.{Enrolment}
-use Rattle.centre_ledger.specs.declared.rows.Enrolment.TheVariants.{Registered, Enrolled, Withdrawn}
+use Rattle.centre_ledger.specs.declared.{rows.DeviceRow.DeviceRow, rows.Enrolment.Enrolment, rows.Enrolment.TheVariants.Registered, rows.Enrolment.TheVariants.Enrolled, rows.Enrolment.TheVariants.Withdrawn}
 use Rattle.centre_ledger.specs.Rows.{customer_number}
 use Rattle.centre_ledger.specs.Payload.{state_byte, state_number, head_table}
 use Rattle.centre_ledger.specs.Parts.{state_from, enrolment_from, IsToldBy, HeadIs, bare_at, sum_at}
@@ -26,7 +24,7 @@ pub returns_eight : (v a : ℕ) (bytes : List ℕ) → (v ≡ 1 → ⊥) → a �
 returns_eight v a bytes n h =
     subst (λ b. let s = if b then Four else Eight in a ≡ number s (take (bytes_in s) (drop (53 + bytes_in s) bytes))) (sym (ne_eqb v 1 n)) h
 
--- the enrolment that two numbers tell
+-- the enrolment that two numbers encode
 told_from : (state customer : ℕ) (e : Enrolment) → IsToldBy state customer e → e ≡ enrolment_from state customer
 told_from state customer e told = own e ∙ ap₂ enrolment_from told.state told.customer
   where
@@ -56,7 +54,7 @@ head_read v bytes d s o e device byte told origin =
     let third : number Four (take 4 (drop 5 bytes)) ≡ customer_number e = sym told.customer in
     cc
 
--- and what such bytes begin with tells the enrolment of the row
+-- and the beginning of such bytes encodes the enrolment of the row
 pub told_so : (v : ℕ) (bytes : List ℕ) (r : DeviceRow) (state : ℕ) → state_byte v state ≡ get_or bytes 4 0 → HeadIs v r bytes → IsToldBy state (number Four (take 4 (drop 5 bytes))) r.enrolment
 told_so v bytes r state byte head = record {
   state = sym (state_again v (state_number r.enrolment)) ∙ ap (state_from v) (sym (byte ∙ state_is v r bytes head)) ∙ state_again v state;
@@ -66,7 +64,7 @@ told_so v bytes r state byte head = record {
 pub device_so : (v : ℕ) (bytes : List ℕ) (r : DeviceRow) → HeadIs v r bytes → number Four (take 4 bytes) ≡ r.device
 device_so v bytes r head = ap (λ h. get_or h 0 0) head
 
--- the bytes behind are zeros
+-- the bytes after it are zeros
 pub zeros_behind : (at n : ℕ) (bytes : List ℕ) → length bytes ≡ at + n
     → (replicate (length (take n (drop at bytes))) 0 ≡ take n (drop at bytes)) ↔ (drop at bytes ≡ replicate n 0)
 zeros_behind at n bytes l =

@@ -3,7 +3,7 @@ use Rattle.std.proofs.Common.{◌≡◌, ℕ, ◌+◌, ◌-◌, ◌≤◌, List,
 use Rattle.std.proofs.lemmas.List.{take_at, drop_at, drop-drop, drop-replicate, length-replicate, replicate-append-replicate}
 use Rattle.centre_ledger.specs.Payload.{filled}
 
--- zeros behind a front, and the next part laid into them
+-- zeros after a front, and the next part laid into them
 pub laid : (front part bytes new : List ℕ) (at n : ℕ) → length front ≡ at → bytes ≡ front ++ replicate n 0
     → new ≡ take at bytes ++ (part ++ drop (at + length part) bytes) → new ≡ (front ++ part) ++ replicate (n - length part) 0
 laid front part bytes new at n l b e =
@@ -13,7 +13,7 @@ laid front part bytes new at n l b e =
     sym (drop-drop (length part) at bytes) ∙ ap (λ x. drop (length part) (drop at x)) b ∙ ap (drop (length part)) (drop_at front zeros at l) ∙ drop-replicate (length part) n 0 in
     e ∙ ap₂ (λ x y. x ++ (part ++ y)) first rest ∙ sym (append_assoc front part (replicate (n - length part) 0))
 
--- some of the zeros behind a part fill it
+-- some of the zeros after a part fill it
 pub filling : (front part bytes : List ℕ) (size n : ℕ) → length part ≤ size → bytes ≡ (front ++ part) ++ replicate (size + n - length part) 0
     → bytes ≡ (front ++ filled size part) ++ replicate n 0
 filling front part bytes size n h e =

@@ -8,10 +8,7 @@ use Rattle.std.proofs.lemmas.Int.{ints}
 use Rattle.std.proofs.Math.Facts.{Fits-of_z}
 use Rattle.std.proofs.lemmas.Bool.{cases_Bool, eqb-true, ltb-true, ltb-false, not-false, and_parts}
 use Rattle.hmac_core.specs.Hmac.{hmac}
-use Rattle.bench_base.specs.declared.words.Kind.{Kind}
-use Rattle.bench_base.specs.declared.words.Kind.TheVariants.{Enrol, Reset, Audit, Refund, Withdraw}
-use Rattle.bench_base.specs.declared.words.Verdict.{Verdict}
-use Rattle.bench_base.specs.declared.words.Verdict.TheVariants.{Granted, NotEnrolled, EnrolledAlready, NoCustomer, Suspended, NoFunds, Imbalance}
+use Rattle.bench_base.specs.declared.{words.Kind.Kind, words.Kind.TheVariants.Enrol, words.Kind.TheVariants.Reset, words.Kind.TheVariants.Audit, words.Kind.TheVariants.Refund, words.Kind.TheVariants.Withdraw, words.Verdict.Verdict, words.Verdict.TheVariants.Granted, words.Verdict.TheVariants.NotEnrolled, words.Verdict.TheVariants.EnrolledAlready, words.Verdict.TheVariants.NoCustomer, words.Verdict.TheVariants.Suspended, words.Verdict.TheVariants.NoFunds, words.Verdict.TheVariants.Imbalance}
 use Rattle.bench_base.specs.Kinds.{same_kind, empties, is_granted, is_dated}
 use Rattle.bench_base.specs.Ranges.{IsWord, IsDay, IsCustomer}
 use Rattle.bench_base.specs.Rows.{any_true}
@@ -24,15 +21,12 @@ use Rattle.bench_base.specs.Table.{Four, Eight, IsNumber}
 use Rattle.ledger_terms.specs.Sums.{adds, takes}
 use Rattle.ledger_terms.specs.Rulings.{Account, verdict_by, verdict_rows, own_customer, has_left, out_of_balance, is_past_limits, buys_limit, written_amount}
 use Rattle.psd_wire.proofs.Readings.{cut, kind_byte, verdict_byte}
-use Rattle.centre_ledger.specs.declared.rows.DeviceRow.{DeviceRow}
-use Rattle.centre_ledger.specs.declared.rows.CustomerRow.{CustomerRow}
-use Rattle.centre_ledger.specs.declared.rows.Enrolment.{Enrolment}
-use Rattle.centre_ledger.specs.declared.rows.Enrolment.TheVariants.{Registered, Enrolled, Withdrawn}
+use Rattle.centre_ledger.specs.declared.{rows.DeviceRow.DeviceRow, rows.CustomerRow.CustomerRow, rows.Enrolment.Enrolment, rows.Enrolment.TheVariants.Registered, rows.Enrolment.TheVariants.Enrolled, rows.Enrolment.TheVariants.Withdrawn}
 use Rattle.centre_ledger.specs.Soundness.{IsSoundDevice, IsPayer, IsVerdict}
 use Rattle.centre_ledger.proofs.Passed.{granted}
 use Rattle.centre_ledger.specs.Rows.{customer_of, is_withdrawn, withdrawn_of, enrolled_in, account, amount_shown, deadline_after, reply_by, enrolment_after, NamesCustomer, ruled_row}
 
--- a refusal for want of funds shows a balance below the amount
+-- a verdict of `NoFunds` shows a balance below the amount
 short_of : (a : Account) (q : Request) → (verdict_by a q).0 ≡ NoFunds → a.balance < q.amount
 unfolding verdict_by
 short_of a q = first_that (λ (x : Verdict × ℕ). x.0 ≡ NoFunds → a.balance < q.amount) (verdict_rows a q) (Granted, q.amount)
@@ -185,7 +179,7 @@ sums_after r v balance q sound (o, paid, says) =
 
 -- == the enrolment ==
 
--- a device of which nothing is left was enrolled
+-- a device that has not left was enrolled
 left_of : (e : Enrolment) → has_left (customer_of e) (is_withdrawn e) ≡ false → customer_of e ≡ None → ⊥
 left_of Registered h none = true≢false h
 left_of (Enrolled w) h none = none-some _ (sym none)

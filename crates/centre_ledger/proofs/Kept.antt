@@ -8,9 +8,7 @@ use Rattle.std.proofs.lemmas.List.Sums.{sum_by-set, sum_by-cons}
 use Rattle.std.proofs.lemmas.Grind.{same_number_lists}
 use Rattle.std.proofs.Math.ListN.{get_or-map}
 use Rattle.bench_base.specs.Ranges.{IsCustomer, IsDevice}
-use Rattle.centre_ledger.specs.declared.rows.DeviceRow.{DeviceRow}
-use Rattle.centre_ledger.specs.declared.rows.CustomerRow.{CustomerRow}
-use Rattle.centre_ledger.specs.declared.rows.Row.TheVariants.{Device, Customer}
+use Rattle.centre_ledger.specs.declared.{rows.DeviceRow.DeviceRow, rows.CustomerRow.CustomerRow, rows.Row.TheVariants.Device, rows.Row.TheVariants.Customer}
 use Rattle.ledger_terms.specs.Centres.{is_some_at}
 use Rattle.centre_ledger.specs.Rows.{enrolled_in, buys_in, returns_in}
 use Rattle.centre_ledger.specs.Soundness.{IsSoundDevice, IsSoundCustomer}
@@ -49,7 +47,7 @@ sums_most w (o ∷ os) h =
     let tail = sums_most w os (λ k d less. h (suc k) d (omega arith)) in
     rw (sum_by-cons (returns_in w) o os, sum_by-cons (buys_in w) o os) (omega arith)
 
--- a customer that is open is none that isn't
+-- an open customer differs from one that isn't open
 pub other_customer : (customers : List (Option CustomerRow)) (own : Option ℕ) (w : ℕ) → IfSome own (λ v. IsSome (place_of customers v)) → place_of customers w ≡ None → is_some_at own w ≡ false
 other_customer customers None w owned none = refl
 other_customer customers (Some v) w owned none =
@@ -150,7 +148,7 @@ putting b now r balances d kept is after same device = record {
   device = subst IsDevice same device;
 }
 
--- what stood in the row's place
+-- what was in the row's place
 abbrev pub before_of : Books → DeviceRow → Option DeviceRow
 before_of b r = get_or b.devices (r.device - 1) None
 
@@ -310,7 +308,7 @@ deposits_before b r balances d n o p same h =
     let in_w = p.customer in
     h ∙ ap deposits_in (get_or_default b.customers (d - 1) o None (omega arith) ∙ ap (λ e. get_or b.customers (e - 1) None) same ∙ sym (place_from_1 b.customers r.customer in_w.0))
 
--- what is written where it is kept is read there, and nowhere else
+-- what is written to a place is read there, and the other places are as before
 pub kept_own : (balances after : List ℕ) (w x : ℕ) → length balances ≡ 64 → IsCustomer w → after ≡ set balances (w - 1) x → kept_at after w ≡ x
 kept_own balances after w x size in_w h = ap (λ bs. kept_at bs w) h ∙ get_or-set_same balances (w - 1) x 0 (omega arith)
 

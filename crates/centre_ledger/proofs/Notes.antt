@@ -6,9 +6,7 @@ use Rattle.hmac_core.specs.Hmac.{hmac}
 use Rattle.hmac_core.proofs.Codes.{length_hmac}
 use Rattle.bench_base.specs.Rules.{IsVersion}
 use Rattle.bench_base.specs.Table.{Four, Eight, room}
-use Rattle.psd_wire.specs.declared.message.Request.{Request}
-use Rattle.psd_wire.specs.declared.message.ReplyMsg.{ReplyMsg}
-use Rattle.psd_wire.specs.declared.message.Message.{Message}
+use Rattle.psd_wire.specs.declared.{message.Request.Request, message.ReplyMsg.ReplyMsg, message.Message.Message}
 use Rattle.psd_wire.specs.declared.message.Message.TheVariants as m
 use Rattle.psd_wire.specs.Grammar.{IsWhole, IsCoded, body, spell, request_table, reply_table}
 use Rattle.psd_wire.proofs.Readings.{cut, one_body, request_room, reply_room, request_version, length_body_of, length_request, length_reply, reply_version}
@@ -35,7 +33,7 @@ uncoded_spell x key c = (cut (body x) (hmac key (body x)) (spell x key) (length_
 pub length_body_reply : (r : ReplyMsg) → IsWhole (m.Reply r) → length (body (m.Reply r)) ≡ reply_room r.version
 length_body_reply r w = omega (arith, length_reply r [] w, ap length (spell_coded (m.Reply r) [] refl), length-append (body (m.Reply r)) (hmac [] (body (m.Reply r))), length_hmac [] (body (m.Reply r)))
 
--- the first byte of a spelling tells its version
+-- the first byte of a spelling is its version
 pub first_request : (q : Request) (key : List ℕ) → get_or (spell (m.Request q) key) 0 0 ≡ q.version
 first_request q key = ap (λ b. get_or b 0 0) (spell_coded (m.Request q) key refl) ∙ request_version q (hmac key (body (m.Request q)))
 
@@ -44,7 +42,7 @@ first_request q key = ap (λ b. get_or b 0 0) (spell_coded (m.Request q) key ref
 pub length_filled : (size : ℕ) (xs : List ℕ) → length xs ≤ size → length (filled size xs) ≡ size
 length_filled size xs h = omega (arith, h, length-append xs (replicate (size - length xs) 0), length-replicate {A = ℕ} (size - length xs) 0)
 
--- what is filled so is no longer
+-- what is filled to a size is no longer than the size
 pub fits_filled : (size : ℕ) (xs bytes : List ℕ) → filled size xs ≡ bytes → length bytes ≡ size → length xs ≤ size
 fits_filled size xs bytes e l = omega (arith, l, ap length e, length-append xs (replicate (size - length xs) 0))
 
@@ -56,7 +54,7 @@ filled_front size n xs bytes e l long =
       ap₂ (λ a b. replicate (a - b) 0) l (sym long) ∙ sym (drop_at xs zeros n long) ∙ ap (drop n) e,
     )
 
--- the first bytes and the zeros behind them are what is filled
+-- the first bytes and the zeros after them are what is filled
 pub kept_part : (v front : ℕ) (key bytes note : List ℕ) → front ≤ length bytes → IsNoted v front key bytes note → message_part v (length bytes) note ≡ bytes
 unfolding message_part
 kept_part v front key bytes note h k =

@@ -2,9 +2,7 @@
 use Rattle.std.proofs.Common.{◌≡◌, ℕ, ◌+◌, ◌<◌, ◌≤◌, List, ◌++◌, length, get_or, refl, sym, ap, ◌∙◌, arith, inl, inr, length-append}
 use Rattle.std.specs.Prelude.{◌⊎◌}
 use Rattle.bench_base.specs.Table.{room}
-use Rattle.centre_ledger.specs.declared.rows.DeviceRow.{DeviceRow}
-use Rattle.centre_ledger.specs.declared.rows.Row.{Row}
-use Rattle.centre_ledger.specs.declared.rows.Row.TheVariants.{Device, Customer}
+use Rattle.centre_ledger.specs.declared.{rows.DeviceRow.DeviceRow, rows.Row.Row, rows.Row.TheVariants.Device, rows.Row.TheVariants.Customer}
 use Rattle.centre_ledger.specs.Soundness.{IsSoundDevice}
 use Rattle.centre_ledger.specs.Payload.{sums_table, request_size, reply_size, end_size, head_part, sums_part, request_part, reply_part, end_part, device_spelled, device_bytes, DeviceFits, IsOld, DeviceReadsAs, RowReadsAs}
 use Rattle.centre_ledger.proofs.Parted.{Spells, state_low, state_is, parts_of, row_of_parts, size_request, size_reply, length_head, length_sums}
@@ -28,7 +26,7 @@ spells_old r sound fits old = record { version = (omega arith, omega arith); sou
 pub spells_new : (r : DeviceRow) → IsSoundDevice r → DeviceFits 2 r → Spells 2 r
 spells_new r sound fits = record { version = (omega arith, omega arith); sound = sound; fits = fits; old = λ e. absurd (omega (arith, e)) }
 
--- the byte of the state tells the version
+-- the byte of the state shows the version
 pub byte_old : (r : DeviceRow) (bytes : List ℕ) → Spells 1 r → device_spelled 1 r ≡ bytes → get_or bytes 4 0 < 16
 byte_old r bytes g e = omega (arith, state_is 1 r bytes (parts_of 1 r bytes g e).head, state_low r.enrolment)
 
@@ -65,7 +63,7 @@ one_device_row payload r s a b = go a.reads b.reads
 pub written_device : (r : DeviceRow) → IsSoundDevice r → DeviceFits 2 r → DeviceReadsAs (device_bytes r) r
 written_device r sound fits = record { sound = sound; fits = fits; reads = inl refl }
 
--- a low byte stands in no payload of version 2, and a high one in none of version 1
+-- the byte of the state is not low in a payload of version 2, and not high in one of version 1
 pub not_second : (payload : List ℕ) (r : DeviceRow) → get_or payload 4 0 < 16 → DeviceReadsAs payload r → (IsOld r → device_spelled 1 r ≡ payload → ⊥) → ⊥
 not_second payload r low h none = go h.reads
   where

@@ -1,20 +1,12 @@
 -- The commit of each act is the centre's own, whatever is looked up.
 use Rattle.std.proofs.Common.{ℕ, Bool, true, false, List, Option, Some, None, Result, Ok, Err, refl}
-use Rattle.bench_base.specs.declared.words.Node.TheVariants.{Centre}
-use Rattle.bench_base.specs.declared.words.Verdict.{Verdict}
-use Rattle.bench_base.specs.declared.refusals.Unread.{Unread}
-use Rattle.bench_base.specs.declared.refusals.CentreRefusal.{CentreRefusal}
+use Rattle.bench_base.specs.declared.{words.Node.TheVariants.Centre, words.Verdict.Verdict, refusals.Unread.Unread, refusals.CentreRefusal.CentreRefusal}
 use Rattle.bench_base.proofs.Rows.{chosen}
 use Rattle.node_acts.specs.Plans.{IsOfNode}
-use Rattle.psd_wire.specs.declared.message.Request.{Request}
-use Rattle.psd_wire.specs.declared.message.DoneMsg.{DoneMsg}
-use Rattle.psd_wire.specs.declared.message.Message.{Message}
+use Rattle.psd_wire.specs.declared.{message.Request.Request, message.DoneMsg.DoneMsg, message.Message.Message}
 use Rattle.psd_wire.specs.declared.message.Message.TheVariants as m
 use Rattle.psd_wire.specs.Codes.{has_code}
-use Rattle.centre_ledger.specs.declared.rows.DeviceRow.{DeviceRow}
-use Rattle.centre_ledger.specs.declared.rows.CustomerRow.{CustomerRow}
-use Rattle.centre_ledger.specs.declared.standing.Standing.{Standing}
-use Rattle.centre_ledger.specs.declared.taking.CentreAnswer.{CentreAnswer}
+use Rattle.centre_ledger.specs.declared.{rows.DeviceRow.DeviceRow, rows.CustomerRow.CustomerRow, standing.Standing.Standing, taking.CentreAnswer.CentreAnswer}
 use Rattle.centre_ledger.specs.Acts.{CentreAct, LookUps, registered_act, opened_act, flagged_act, taken_act, deposited_act, left_act, stood_act, settled_act, repeated_act, turn_act, request_act, done_act, message_act}
 use Rattle.centre_ledger.specs.Standing.{ruling_in}
 

@@ -6,14 +6,11 @@ use Rattle.bench_base.specs.Rules.{IsVersion}
 use Rattle.bench_base.specs.Table.{Size, Four, Eight, room, row, values, Fit, IsBytes}
 use Rattle.bench_base.proofs.Tables.{values_fit, row_values, values_row, length_row}
 use Rattle.bench_base.proofs.Facts.{behind}
-use Rattle.psd_wire.specs.declared.message.Request.{Request}
-use Rattle.psd_wire.specs.declared.message.ReplyMsg.{ReplyMsg}
+use Rattle.psd_wire.specs.declared.{message.Request.Request, message.ReplyMsg.ReplyMsg}
 use Rattle.psd_wire.specs.declared.message.Message.TheVariants as m
 use Rattle.psd_wire.specs.Grammar.{IsWhole, spell, reply_table}
 use Rattle.psd_wire.proofs.Readings.{byte_of, request_room, reply_room, request_room_le, length_body_of, length_request, length_reply}
-use Rattle.centre_ledger.specs.declared.rows.DeviceRow.{DeviceRow}
-use Rattle.centre_ledger.specs.declared.rows.Enrolment.{Enrolment}
-use Rattle.centre_ledger.specs.declared.rows.Enrolment.TheVariants.{Registered, Enrolled, Withdrawn}
+use Rattle.centre_ledger.specs.declared.{rows.DeviceRow.DeviceRow, rows.Enrolment.Enrolment, rows.Enrolment.TheVariants.Registered, rows.Enrolment.TheVariants.Enrolled, rows.Enrolment.TheVariants.Withdrawn}
 use Rattle.centre_ledger.specs.Rows.{customer_number}
 use Rattle.centre_ledger.specs.Soundness.{IsRuling, IsSoundDevice}
 use Rattle.centre_ledger.specs.Payload.{state_byte, state_number, head_table, head, sums_table, sums, request_size, reply_size, uncoded, kept, filled, message_part, head_part, sums_part, request_part, reply_part, end_part, device_spelled, DeviceFits, IsOld}
@@ -43,7 +40,7 @@ sums_values : (v : ℕ) (r : DeviceRow) (front rest : List ℕ) → DeviceFits v
 unfolding sums_part
 sums_values v r front rest f l = values_row (sums_table v) (sums r) front rest 45 l f.sums
 
--- the byte of the state tells the state
+-- the byte of the state shows the state
 pub state_again : (v s : ℕ) → state_from v (state_byte v s) ≡ s
 state_again v s = go (v == 1)
   where
@@ -115,7 +112,7 @@ assembled v r bytes l h p =
     let from_key = ap₂ (λ x y. x ++ y) b from_sums ∙ behind 13 32 bytes in
     ap₂ (λ x y. x ++ y) a from_key ∙ behind 0 13 bytes
 
--- the numbers fit the fields of version 2, whatever version they stand in
+-- the numbers fit the fields of version 2, whatever version they were read from
 pub fits_made : (v : ℕ) (r : DeviceRow) (bytes : List ℕ) → IsVersion v → length bytes ≡ 192 → IsBytes bytes → IsSoundDevice r → Parts v r bytes → DeviceFits 2 r
 fits_made v r bytes h l bs sound p =
     let front : Fit head_table (head v r) = subst (Fit head_table) p.head (values_fit head_table 0 bytes bs) in
@@ -276,7 +273,7 @@ pub same_row : (r s : DeviceRow) → bare r ≡ bare s → r.request ≡ s.reque
 unfolding with_messages
 same_row r s e q p = ap (λ x. with_messages x r.request r.reply) e ∙ ap₂ (λ a b. with_messages (bare s) a b) q p
 
--- fields and parts tell the messages, hence the row
+-- fields and parts determine the messages, hence the row
 pub row_of_parts : (v : ℕ) (r s : DeviceRow) (request reply : List ℕ) → IsVersion v → IsSoundDevice r → IsSoundDevice s → bare r ≡ bare s
     → length request ≡ request_size v → length reply ≡ reply_size v
     → message_part v (request_size v) r.request ≡ request → message_part v (request_size v) s.request ≡ request

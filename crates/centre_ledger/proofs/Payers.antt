@@ -4,8 +4,7 @@ use Rattle.std.specs.Prelude.{IfSome}
 use Rattle.bench_base.specs.Ranges.{IsCustomer, IsDevice}
 use Rattle.psd_wire.specs.declared.message.Request.{Request}
 use Rattle.ledger_terms.specs.Rulings.{payer}
-use Rattle.centre_ledger.specs.declared.rows.DeviceRow.{DeviceRow}
-use Rattle.centre_ledger.specs.declared.rows.CustomerRow.{CustomerRow}
+use Rattle.centre_ledger.specs.declared.{rows.DeviceRow.DeviceRow, rows.CustomerRow.CustomerRow}
 use Rattle.centre_ledger.specs.Soundness.{IsPayer}
 use Rattle.centre_ledger.specs.Rows.{enrolled_in}
 use Rattle.centre_ledger.specs.Books.{Books, device_at, customer_at, IsDeviceOf, IsCustomerAt, IsOwned, AreSound}

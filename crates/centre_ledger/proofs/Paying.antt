@@ -6,8 +6,7 @@ use Rattle.psd_wire.specs.declared.message.Request.{Request}
 use Rattle.ledger_terms.specs.Centres.{device_numbers, device_share, is_some_at, sum_over, customer_sum, customer_returned, balance}
 use Rattle.ledger_terms.specs.Sums.{takes, ruled_sum}
 use Rattle.ledger_terms.specs.Rulings.{payer, own_customer}
-use Rattle.centre_ledger.specs.declared.rows.DeviceRow.{DeviceRow}
-use Rattle.centre_ledger.specs.declared.rows.CustomerRow.{CustomerRow}
+use Rattle.centre_ledger.specs.declared.{rows.DeviceRow.DeviceRow, rows.CustomerRow.CustomerRow}
 use Rattle.centre_ledger.specs.Records.{PaysBy}
 use Rattle.centre_ledger.specs.Rows.{enrolled_in}
 use Rattle.centre_ledger.specs.Laws.{IsSlotOf, IsCustomerSlotOf, AreSlots}

@@ -1,8 +1,7 @@
--- What sound books tell is what their commits tell.
+-- Sound books show what their commits show.
 use Rattle.std.proofs.Common.{◌≡◌, ℕ, List, Option, Some, None, option_map, refl, sym, ap, subst, ◌∙◌}
 use Rattle.bench_base.specs.declared.ledger.Commit.{Commit}
-use Rattle.centre_ledger.specs.declared.rows.DeviceRow.{DeviceRow}
-use Rattle.centre_ledger.specs.declared.standing.Standing.{Standing}
+use Rattle.centre_ledger.specs.declared.{rows.DeviceRow.DeviceRow, standing.Standing.Standing}
 use Rattle.centre_ledger.specs.Acts.{standing_of}
 use Rattle.centre_ledger.specs.ActLaws.{ActsArePlanned}
 use Rattle.centre_ledger.specs.Books.{device_at, customer_at}

@@ -3,9 +3,7 @@ use Rattle.std.proofs.Common.{◌≡◌, ℕ, ◌+◌, ◌-◌, ◌<◌, ◌≤�
 use Rattle.std.specs.Prelude.{IfSome, IsSome, sum_by}
 use Rattle.std.proofs.lemmas.Bool.{cases_eq}
 use Rattle.bench_base.specs.Ranges.{IsCustomer, IsDevice, IsWord}
-use Rattle.centre_ledger.specs.declared.rows.DeviceRow.{DeviceRow}
-use Rattle.centre_ledger.specs.declared.rows.CustomerRow.{CustomerRow}
-use Rattle.centre_ledger.specs.declared.rows.Row.TheVariants.{Device, Customer}
+use Rattle.centre_ledger.specs.declared.{rows.DeviceRow.DeviceRow, rows.CustomerRow.CustomerRow, rows.Row.TheVariants.Device, rows.Row.TheVariants.Customer}
 use Rattle.centre_ledger.specs.Rows.{enrolled_in, buys_in, returns_in}
 use Rattle.centre_ledger.specs.Soundness.{IsSoundDevice, IsSoundCustomer}
 use Rattle.centre_ledger.specs.Books.{Books, place_of, device_at, customer_at, put_row, left_in, deposits_in, IsCovered, IsOwned, IsDeviceOf, IsCustomerAt, AreSound}

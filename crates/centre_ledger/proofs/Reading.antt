@@ -5,8 +5,7 @@ use Rattle.std.proofs.lemmas.List.{length-take-le, length-drop}
 use Rattle.bench_base.specs.Rules.{IsVersion}
 use Rattle.bench_base.specs.Table.{Four, Eight, room, IsBytes}
 use Rattle.bench_base.proofs.Tables.{values_fit}
-use Rattle.psd_wire.specs.declared.message.Request.{Request}
-use Rattle.psd_wire.specs.declared.message.ReplyMsg.{ReplyMsg}
+use Rattle.psd_wire.specs.declared.{message.Request.Request, message.ReplyMsg.ReplyMsg}
 use Rattle.psd_wire.specs.Grammar.{request_table}
 use Rattle.psd_wire.proofs.Readings.{request_room, length_request}
 use Rattle.centre_ledger.specs.declared.rows.DeviceRow.{DeviceRow}
@@ -92,7 +91,7 @@ module _ (v : ℕ) (bytes : List ℕ) (r : DeviceRow) (spells : Spells v r) (e :
   pub end_is : drop (end_place v) bytes ≡ end_part v
   end_is = parts_are.end
 
-  -- fields and messages stand in it
+  -- the fields and the messages are in the payload
   pub not_missed : (row : DeviceRow) → row ≡ bare_at v bytes
       → ((x : DeviceRow) → IsSoundDevice x → bare x ≡ row
       → KeepMessages v (take (request_size v) (drop (request_place v) bytes)) (take (reply_size v) (drop (reply_place v) bytes)) x → ⊥) → ⊥

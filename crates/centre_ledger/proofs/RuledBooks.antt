@@ -1,18 +1,14 @@
--- The row with a ruling is one whose customer can pay.
+-- The row with a ruling has a customer who can pay.
 use Rattle.std.proofs.Common.{◌≡◌, ℕ, ◌+◌, ◌≤◌, Bool, true, false, List, Option, Some, None, cond, refl, sym, ap, subst, ⊎_elim, true≢false, arith}
 use Rattle.std.specs.Prelude.{◌&&◌, not, IsSome}
 use Rattle.std.proofs.lemmas.Bool.{cases_Bool, eqb-true, and_parts}
-use Rattle.bench_base.specs.declared.words.Kind.{Kind}
-use Rattle.bench_base.specs.declared.words.Kind.TheVariants.{Enrol, Reset, Audit, Refund, Withdraw}
-use Rattle.bench_base.specs.declared.words.Verdict.{Verdict}
+use Rattle.bench_base.specs.declared.{words.Kind.Kind, words.Kind.TheVariants.Enrol, words.Kind.TheVariants.Reset, words.Kind.TheVariants.Audit, words.Kind.TheVariants.Refund, words.Kind.TheVariants.Withdraw, words.Verdict.Verdict}
 use Rattle.bench_base.specs.Kinds.{same_kind, is_granted}
 use Rattle.psd_wire.specs.declared.message.Request.{Request}
 use Rattle.ledger_terms.specs.Sums.{adds, takes}
 use Rattle.ledger_terms.specs.Centres.{is_some_at}
 use Rattle.ledger_terms.specs.Rulings.{own_customer, is_enrolled}
-use Rattle.centre_ledger.specs.declared.rows.DeviceRow.{DeviceRow}
-use Rattle.centre_ledger.specs.declared.rows.Enrolment.{Enrolment}
-use Rattle.centre_ledger.specs.declared.rows.Enrolment.TheVariants.{Registered, Enrolled, Withdrawn}
+use Rattle.centre_ledger.specs.declared.{rows.DeviceRow.DeviceRow, rows.Enrolment.Enrolment, rows.Enrolment.TheVariants.Registered, rows.Enrolment.TheVariants.Enrolled, rows.Enrolment.TheVariants.Withdrawn}
 use Rattle.centre_ledger.specs.Rows.{account, customer_of, enrolled_in, withdrawn_of, enrolment_after, buys_in, returns_in}
 use Rattle.centre_ledger.specs.Soundness.{IsSoundDevice}
 use Rattle.centre_ledger.specs.Books.{Books, device_at, customer_at, left_in, AreSound}

@@ -1,10 +1,7 @@
 -- Which rows there are, that the commit of each call comes in order, and that each new row meets the conditions of a row.
 use Rattle.std.proofs.Common.{◌≡◌, ℕ, false, List, ◌∷◌, Option, Some, None, Ok, refl, sym, ap, ◌∙◌, true≢false, arith}
 use Rattle.std.specs.Prelude.{is_some}
-use Rattle.bench_base.specs.declared.words.Verdict.{Verdict}
-use Rattle.bench_base.specs.declared.words.Node.TheVariants.{Centre}
-use Rattle.bench_base.specs.declared.ledger.Commit.{Commit}
-use Rattle.bench_base.specs.declared.ledger.Commit.TheVariants.{Registered, Opened, Deposited, Flagged, Ruled, Settled}
+use Rattle.bench_base.specs.declared.{words.Verdict.Verdict, words.Node.TheVariants.Centre, ledger.Commit.Commit, ledger.Commit.TheVariants.Registered, ledger.Commit.TheVariants.Opened, ledger.Commit.TheVariants.Deposited, ledger.Commit.TheVariants.Flagged, ledger.Commit.TheVariants.Ruled, ledger.Commit.TheVariants.Settled}
 use Rattle.bench_base.specs.Nodes.{node_of, same_node}
 use Rattle.bench_base.specs.Ranges.{IsWord}
 use Rattle.bench_base.specs.Table.{IsBytes}
@@ -14,8 +11,7 @@ use Rattle.psd_wire.proofs.Readings.{spell_back}
 use Rattle.ledger_terms.specs.Requests.{request_in}
 use Rattle.ledger_terms.specs.Centres.{registered, enrolled, opened, suspended, balance}
 use Rattle.ledger_terms.specs.Rulings.{payer, own_customer, verdict_by}
-use Rattle.centre_ledger.specs.declared.rows.DeviceRow.{DeviceRow}
-use Rattle.centre_ledger.specs.declared.rows.CustomerRow.{CustomerRow}
+use Rattle.centre_ledger.specs.declared.{rows.DeviceRow.DeviceRow, rows.CustomerRow.CustomerRow}
 use Rattle.centre_ledger.specs.Answers.{settle_answer, deposit_answer}
 use Rattle.centre_ledger.specs.Order.{InOrder}
 use Rattle.centre_ledger.specs.Soundness.{IsSoundDevice, IsSoundCustomer, IsNext, IsVerdict}

@@ -3,21 +3,15 @@ use Rattle.std.proofs.Common.{◌≡◌, ℕ, ◌+◌, ◌≤◌, Bool, true, fa
 use Rattle.std.specs.Prelude.{Result}
 use Rattle.bench_base.specs.Ranges.{IsCustomer, IsDevice, IsWord}
 use Rattle.bench_base.specs.Table.{IsBytes}
-use Rattle.bench_base.specs.declared.refusals.Unread.{Unread}
-use Rattle.bench_base.specs.declared.refusals.CentreRefusal.{CentreRefusal}
+use Rattle.bench_base.specs.declared.{refusals.Unread.Unread, refusals.CentreRefusal.CentreRefusal, words.Verdict.Verdict}
 use Rattle.bench_base.specs.declared.refusals.CentreRefusal.TheVariants as no
 use Rattle.node_acts.specs.declared.act.Act.TheVariants.{Refuse}
-use Rattle.bench_base.specs.declared.words.Verdict.{Verdict}
-use Rattle.psd_wire.specs.declared.message.Request.{Request}
-use Rattle.psd_wire.specs.declared.message.DoneMsg.{DoneMsg}
-use Rattle.psd_wire.specs.declared.message.Message.{Message}
+use Rattle.psd_wire.specs.declared.{message.Request.Request, message.DoneMsg.DoneMsg, message.Message.Message}
 use Rattle.psd_wire.specs.declared.message.Message.TheVariants as m
 use Rattle.psd_wire.specs.Codes.{has_code}
 use Rattle.psd_wire.specs.Grammar.{read}
-use Rattle.centre_ledger.specs.declared.rows.DeviceRow.{DeviceRow}
-use Rattle.centre_ledger.specs.declared.rows.CustomerRow.{CustomerRow}
+use Rattle.centre_ledger.specs.declared.{rows.DeviceRow.DeviceRow, rows.CustomerRow.CustomerRow, standing.Standing.Standing}
 use Rattle.centre_ledger.specs.declared.rows.Row.TheVariants as row
-use Rattle.centre_ledger.specs.declared.standing.Standing.{Standing}
 use Rattle.centre_ledger.specs.Answers.{settle_answer, deposit_answer, turn_answer}
 use Rattle.centre_ledger.specs.Records.{registered_row, opened_row}
 use Rattle.centre_ledger.specs.Rows.{deposited_row, settled_row, buys_in, returns_in}

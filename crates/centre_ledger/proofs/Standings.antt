@@ -1,19 +1,16 @@
--- What the row of a device tells of its last ruling, of the ruling in flight, and of what is acknowledged.
+-- What the row of a device shows of its last ruling, of the ruling in flight, and of what is acknowledged.
 use Rattle.std.proofs.Common.{◌≡◌, ℕ, ◌+◌, ◌-◌, ◌<◌, ◌≤◌, true, false, List, [], ◌∷◌, ◌++◌, take, drop, get_or, Bool, Option, Some, None, Ok, cond, refl, sym, ap, subst, ◌∙◌, ⊎_elim, arith}
 use Rattle.std.specs.Prelude.{nat_lt, max, ◌==◌}
 use Rattle.std.proofs.lemmas.Bool.{cases_Bool, cases_lt, eq-eqb, ne_eqb, le-leb, lt-leb, ltb-true, ltb-false}
 use Rattle.std.proofs.lemmas.Option.{same_Some}
 use Rattle.std.proofs.Math.Nat.{min-eq_left}
-use Rattle.bench_base.specs.declared.words.Verdict.{Verdict}
+use Rattle.bench_base.specs.declared.{words.Verdict.Verdict, ledger.Commit.Commit, ledger.Commit.TheVariants.Ruled}
 use Rattle.bench_base.specs.Kinds.{is_granted}
-use Rattle.bench_base.specs.declared.ledger.Commit.{Commit}
-use Rattle.bench_base.specs.declared.ledger.Commit.TheVariants.{Ruled}
 use Rattle.bench_base.specs.Table.{Size, One, Two, Four, Five, Eight, IsNumber, bytes_in, number, row, spelled}
 use Rattle.bench_base.proofs.Facts.{either}
 use Rattle.bench_base.proofs.Tables.{number_spelled}
 use Rattle.hmac_core.specs.Hmac.{hmac}
-use Rattle.psd_wire.specs.declared.message.Request.{Request}
-use Rattle.psd_wire.specs.declared.message.ReplyMsg.{ReplyMsg}
+use Rattle.psd_wire.specs.declared.{message.Request.Request, message.ReplyMsg.ReplyMsg}
 use Rattle.psd_wire.specs.declared.message.Message.TheVariants as m
 use Rattle.psd_wire.specs.Grammar.{IsWhole, read, spell, body, sum_size, reply_table, reply_values, verdict_code, verdict_of}
 use Rattle.psd_wire.proofs.Readings.{read_spell, verdict_of_code}
@@ -92,7 +89,7 @@ sum_to_last f d s (_ ∷ C) o h = sum_to_last f d s C o.1 h
 
 -- == the verdict in a Reply ==
 
--- the byte of the verdict stands at one place, whatever the version
+-- the byte of the verdict is at one place, whatever the version
 verdict_byte : (p : ReplyMsg) (key : List ℕ) → get_or (spell (m.Reply p) key) 11 0 ≡ verdict_code p.verdict
 unfolding spell body spelled
 verdict_byte p key = refl
@@ -102,7 +99,7 @@ same_verdict p x key other h =
     let codes : verdict_code p.verdict ≡ verdict_code x.verdict = sym (verdict_byte p key) ∙ ap (λ b. get_or b 11 0) h ∙ verdict_byte x other in
     same_Some _ _ (sym (verdict_of_code p.verdict) ∙ ap verdict_of codes ∙ verdict_of_code x.verdict)
 
--- the amount stands at one place, in as many bytes as the version has
+-- the amount is at one place, in as many bytes as the version has
 amount_bytes : (s : Size) (p : ReplyMsg) (rest : List ℕ) → take (bytes_in s) (drop 12 (row (reply_table s) (reply_values p) ++ rest)) ≡ spelled s p.amount
 unfolding spelled
 amount_bytes One p rest = refl

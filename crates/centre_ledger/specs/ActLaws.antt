@@ -3,8 +3,7 @@ use Rattle.std.specs.Prelude.{◌≡◌, ℕ, Bool, List, [], ◌∷◌}
 use Rattle.bench_base.specs.Nodes.{node_of}
 use Rattle.bench_base.specs.Ranges.{IsDevice, IsCustomer, IsWord}
 use Rattle.bench_base.specs.Table.{IsBytes}
-use Rattle.bench_base.specs.declared.words.Node.TheVariants.{Centre}
-use Rattle.bench_base.specs.declared.ledger.Commit.{Commit}
+use Rattle.bench_base.specs.declared.{words.Node.TheVariants.Centre, ledger.Commit.Commit}
 use Rattle.node_acts.specs.Acts.{OfCommit}
 use Rattle.node_acts.specs.declared.act.Act.{Act}
 use Rattle.centre_ledger.specs.declared.rows.Row.{Row}
@@ -58,6 +57,7 @@ pub record ActsFollow : Type 0 where
 
 -- == what is looked up ==
 
--- what these books tell is what the commits tell; so each act by these books is the one by the commits, off which the ledger's plan is read
+-- What these books show is what the commits show. So each act by these books is the one by the commits, and the ledger's
+-- plan is read off that one.
 abbrev pub ActsArePlanned : Type 0
 ActsArePlanned = (b : Books) (C : List Commit) → AreSound b → AreBooksOf b C → in_books b ≡ in_commits C

@@ -1,28 +1,18 @@
 -- What each call of the centre does, by what it looks up: in its rows, or in a list of commits. Amounts are in mills.
 use Rattle.std.specs.Prelude.{ℕ, ◌-◌, Bool, true, false, List, Option, Some, None, Result, Ok, Err, option_map, if◌then◌else◌}
-use Rattle.bench_base.specs.declared.words.Verdict.{Verdict}
-use Rattle.bench_base.specs.declared.refusals.Unread.{Unread}
+use Rattle.bench_base.specs.declared.{words.Verdict.Verdict, refusals.Unread.Unread, refusals.CentreRefusal.CentreRefusal}
 use Rattle.bench_base.specs.declared.refusals.Unread.TheVariants as unread
-use Rattle.bench_base.specs.declared.refusals.CentreRefusal.{CentreRefusal}
 use Rattle.bench_base.specs.declared.refusals.CentreRefusal.TheVariants as no
 use Rattle.bench_base.specs.declared.ledger.Commit.TheVariants as c
-use Rattle.node_acts.specs.declared.act.Act.{Act}
-use Rattle.node_acts.specs.declared.act.Act.TheVariants.{Refuse, Tell, Commits}
-use Rattle.psd_wire.specs.declared.message.Request.{Request}
-use Rattle.psd_wire.specs.declared.message.DoneMsg.{DoneMsg}
-use Rattle.psd_wire.specs.declared.message.Message.{Message}
+use Rattle.node_acts.specs.declared.{act.Act.Act, act.Act.TheVariants.Refuse, act.Act.TheVariants.Tell, act.Act.TheVariants.Commits}
+use Rattle.psd_wire.specs.declared.{message.Request.Request, message.DoneMsg.DoneMsg, message.Message.Message}
 use Rattle.psd_wire.specs.declared.message.Message.TheVariants as m
 use Rattle.psd_wire.specs.Codes.{has_code}
 use Rattle.psd_wire.specs.Grammar.{read}
 use Rattle.ledger_terms.specs.Sums.{adds, takes}
 use Rattle.ledger_terms.specs.Rulings.{verdict_by, payer, own_customer}
-use Rattle.centre_ledger.specs.declared.rows.DeviceRow.{DeviceRow}
-use Rattle.centre_ledger.specs.declared.rows.CustomerRow.{CustomerRow}
-use Rattle.centre_ledger.specs.declared.rows.Row.{Row}
+use Rattle.centre_ledger.specs.declared.{rows.DeviceRow.DeviceRow, rows.CustomerRow.CustomerRow, rows.Row.Row, acts.Deposit.Deposit, standing.Standing.Standing, taking.CentreAnswer.CentreAnswer}
 use Rattle.centre_ledger.specs.declared.rows.Row.TheVariants as row
-use Rattle.centre_ledger.specs.declared.acts.Deposit.{Deposit}
-use Rattle.centre_ledger.specs.declared.standing.Standing.{Standing}
-use Rattle.centre_ledger.specs.declared.taking.CentreAnswer.{CentreAnswer}
 use Rattle.centre_ledger.specs.declared.taking.CentreAnswer.TheVariants as centre
 use Rattle.centre_ledger.specs.Answers.{deposit_answer, turn_answer, settle_answer}
 use Rattle.centre_ledger.specs.Books.{Books, device_at, customer_at, left_in}
@@ -51,7 +41,12 @@ pub record LookUps : Type 0 where
   pub standing : ℕ → Option Standing
 
 abbrev pub in_books : Books → LookUps
-in_books b = record { device = λ d. device_at b d; customer = λ w. customer_at b w; left = λ w. left_in b w; standing = λ d. option_map standing_of (device_at b d) }
+in_books b = record {
+  device = λ d. device_at b d;
+  customer = λ w. customer_at b w;
+  left = λ w. left_in b w;
+  standing = λ d. option_map standing_of (device_at b d);
+}
 
 -- == customers ==
 
@@ -88,7 +83,8 @@ taken_act w receipt amount r (Ok (Some next)) = Commits (c.Deposited w receipt a
 -- a deposit is taken, by the row of the customer
 abbrev pub deposited_act : ℕ → ℕ → ℕ → Option CustomerRow → CentreAct Deposit
 deposited_act w receipt amount None = Refuse (no.UnknownCustomer w)
-deposited_act w receipt amount (Some r) = taken_act w receipt amount r (deposited_row r receipt amount (deposit_answer (r.receipt, r.amount) r.deposits receipt amount))
+deposited_act w receipt amount (Some r) = taken_act w receipt amount r
+    (deposited_row r receipt amount (deposit_answer (r.receipt, r.amount) r.deposits receipt amount))
 
 -- the same, by what is looked up
 abbrev pub deposit_by : ℕ → ℕ → ℕ → LookUps → CentreAct Deposit
@@ -184,7 +180,8 @@ settled_act r n (Ok (Some next)) = Commits (c.Settled r.device n) (row.Device ne
 -- the act of a Done, by the row of its device and its code
 abbrev pub done_act : List ℕ → DoneMsg → Option DeviceRow → CentreAct CentreAnswer
 done_act bytes q None = Refuse (no.UnknownDevice q.device)
-done_act bytes q (Some r) = if has_code r.key bytes then settled_act r q.number (settled_row r (settle_answer r.settled r.ruled q.number)) else Refuse no.BadCode
+done_act bytes q (Some r) = if has_code r.key bytes then settled_act r q.number (settled_row r (settle_answer r.settled r.ruled q.number))
+    else Refuse no.BadCode
 
 -- == what is taken ==
 

@@ -1,11 +1,8 @@
--- The rows of the centre all together: what stands in each place, what each customer has left, and when they are sound.
--- Amounts are in mills.
+-- The rows of the centre all together: what each place has, what each customer has left, and when they are sound. Amounts
+-- are in mills.
 use Rattle.std.specs.Prelude.{◌≡◌, ℕ, ◌+◌, ◌-◌, ◌≤◌, All, List, length, map, get_or, set, replicate, Option, Some, None, IfSome, IsSome, ◌==◌, sum_by, if◌then◌else◌}
 use Rattle.bench_base.specs.Ranges.{IsWord}
-use Rattle.centre_ledger.specs.declared.rows.DeviceRow.{DeviceRow}
-use Rattle.centre_ledger.specs.declared.rows.CustomerRow.{CustomerRow}
-use Rattle.centre_ledger.specs.declared.rows.Row.{Row}
-use Rattle.centre_ledger.specs.declared.rows.Row.TheVariants.{Device, Customer}
+use Rattle.centre_ledger.specs.declared.{rows.DeviceRow.DeviceRow, rows.CustomerRow.CustomerRow, rows.Row.Row, rows.Row.TheVariants.Device, rows.Row.TheVariants.Customer}
 use Rattle.centre_ledger.specs.Rows.{enrolled_in, buys_in, returns_in}
 use Rattle.centre_ledger.specs.Soundness.{IsSoundDevice, IsSoundCustomer}
 
@@ -28,7 +25,7 @@ customer_at b w = place_of b.customers w
 abbrev pub no_rows : Books
 no_rows = record { devices = replicate 8 None; customers = replicate 64 None }
 
--- the row in its place, in which it takes the place of what stood there
+-- the row in its place, instead of what was there
 abbrev pub put_row : Books → Row → Books
 put_row b (Device r) = record b { devices = set b.devices (r.device - 1) (Some r) }
 put_row b (Customer r) = record b { customers = set b.customers (r.customer - 1) (Some r) }

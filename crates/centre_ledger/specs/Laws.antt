@@ -1,22 +1,17 @@
--- What one commit does to the rows of the centre, and what they tell. The lists of commits have the newest first.
+-- What one commit does to the rows of the centre, and what they show. The lists of commits have the newest first.
 use Rattle.std.specs.Prelude.{◌≡◌, ℕ, ◌+◌, Bool, false, List, [], ◌∷◌, Option, Some, None, Ok, ◌==◌, is_some, sum_by}
-use Rattle.bench_base.specs.declared.words.Verdict.{Verdict}
-use Rattle.bench_base.specs.declared.words.Node.TheVariants.{Centre}
-use Rattle.bench_base.specs.declared.ledger.Commit.{Commit}
-use Rattle.bench_base.specs.declared.ledger.Commit.TheVariants.{Registered, Opened, Deposited, Flagged, Ruled, Settled}
+use Rattle.bench_base.specs.declared.{words.Verdict.Verdict, words.Node.TheVariants.Centre, ledger.Commit.Commit, ledger.Commit.TheVariants.Registered, ledger.Commit.TheVariants.Opened, ledger.Commit.TheVariants.Deposited, ledger.Commit.TheVariants.Flagged, ledger.Commit.TheVariants.Ruled, ledger.Commit.TheVariants.Settled}
 use Rattle.bench_base.specs.Nodes.{node_of, same_node}
 use Rattle.bench_base.specs.Ranges.{IsWord, IsCustomer}
 use Rattle.bench_base.specs.Table.{IsBytes}
-use Rattle.psd_wire.specs.declared.message.Request.{Request}
-use Rattle.psd_wire.specs.declared.message.ReplyMsg.{ReplyMsg}
+use Rattle.psd_wire.specs.declared.{message.Request.Request, message.ReplyMsg.ReplyMsg}
 use Rattle.psd_wire.specs.declared.message.Message.TheVariants as m
 use Rattle.psd_wire.specs.Grammar.{read}
 use Rattle.ledger_terms.specs.Requests.{request_in}
 use Rattle.ledger_terms.specs.Centres.{registered, opened, device_numbers, customer_bought, customer_returned, balance}
 use Rattle.ledger_terms.specs.InFlight.{in_flight, acknowledged_resets, acknowledged_refunds}
 use Rattle.ledger_terms.specs.Rulings.{verdict, verdict_by, payer, own_customer, stored_reply, reply_note}
-use Rattle.centre_ledger.specs.declared.rows.DeviceRow.{DeviceRow}
-use Rattle.centre_ledger.specs.declared.rows.CustomerRow.{CustomerRow}
+use Rattle.centre_ledger.specs.declared.{rows.DeviceRow.DeviceRow, rows.CustomerRow.CustomerRow}
 use Rattle.centre_ledger.specs.Acts.{verdict_in, ruled_in, standing_of}
 use Rattle.centre_ledger.specs.Answers.{settle_answer, deposit_answer}
 use Rattle.centre_ledger.specs.Order.{InOrder}
@@ -164,7 +159,7 @@ pub record SoundLaws : Type 0 where
       → IsSoundCustomer (record r { deposits = after; receipt = receipt; amount = amount })
   pub flagged : (r : CustomerRow) (flag : Bool) → IsSoundCustomer r → IsSoundCustomer (record r { suspended = flag })
 
--- == what the rows tell ==
+-- == what the rows show ==
 
 -- the verdict by the rows is the one that follows from the commits
 abbrev pub RulingByRows : Type 0
@@ -188,7 +183,7 @@ BalanceByRows = (os : List (Option DeviceRow)) (w : CustomerRow) (left : ℕ) (C
     → AreSlots os device_numbers C → IsCustomerOf w C
     → left + sum_by (buys_in w.customer) os ≡ w.deposits + sum_by (returns_in w.customer) os → left ≡ balance w.customer C
 
--- so are the verdict and the Reply that the ledger plans, by the row of the commits
+-- the verdict and the Reply by the row of the commits are those that the ledger plans
 abbrev pub RulingByCommits : Type 0
 RulingByCommits = (C : List Commit) (q : Request) (x : ℕ × List ℕ) (bytes : List ℕ) → InOrder C → registered q.device C ≡ Some x
     → (verdict_in (in_commits C) (device_row_with q.device C x) q ≡ (verdict C q).0)
@@ -201,7 +196,7 @@ pub record Rulings : Type 0 where
   pub balanced : BalancingByRows
   pub left : BalanceByRows
 
--- the row of a device tells of the commits what is acknowledged, what is in flight, and what is answered again
+-- the row of a device shows what the commits show: what is acknowledged, what is in flight, and what is answered again
 pub record Stands (r : DeviceRow) (C : List Commit) : Type 0 where
   pub last : last_ruling r.device C ≡ ruling_in r
   pub in_flight : flight_shown (in_flight r.device C) ≡ flight_told (flight_in r)

@@ -1,7 +1,6 @@
--- The order in which the centre's commits come, the newest first.
+-- The order of the centre's commits, the newest first.
 use Rattle.std.specs.Prelude.{◌≡◌, ◌+◌, ◌<◌, ◌≤◌, true, false, List, [], ◌∷◌, None, IsSome}
-use Rattle.bench_base.specs.declared.ledger.Commit.{Commit}
-use Rattle.bench_base.specs.declared.ledger.Commit.TheVariants.{Registered, Opened, Deposited, Flagged, Ruled, Settled}
+use Rattle.bench_base.specs.declared.{ledger.Commit.Commit, ledger.Commit.TheVariants.Registered, ledger.Commit.TheVariants.Opened, ledger.Commit.TheVariants.Deposited, ledger.Commit.TheVariants.Flagged, ledger.Commit.TheVariants.Ruled, ledger.Commit.TheVariants.Settled}
 use Rattle.ledger_terms.specs.Requests.{request_in}
 use Rattle.ledger_terms.specs.Centres.{registered, opened, deposits, ruled}
 use Rattle.ledger_terms.specs.Rulings.{verdict}

@@ -1,17 +1,12 @@
 -- A device's row, part by part, as its payload shows it, and what is found of its messages.
 use Rattle.std.specs.Prelude.{◌≡◌, ℕ, ◌+◌, ◌-◌, ◌≤◌, true, List, [], Option, Some, None, Result, Ok, ◌==◌, if◌then◌else◌, length, take, drop, get_or, replicate}
 use Rattle.bench_base.specs.Table.{bytes_in, number, room, values}
-use Rattle.bench_base.specs.declared.words.Kind.TheVariants.{Reset}
+use Rattle.bench_base.specs.declared.{words.Kind.TheVariants.Reset, refusals.Unread.Unread}
 use Rattle.bench_base.specs.Kinds.{same_kind, empties, is_granted}
-use Rattle.bench_base.specs.declared.refusals.Unread.{Unread}
-use Rattle.psd_wire.specs.declared.message.Message.{Message}
+use Rattle.psd_wire.specs.declared.{message.Message.Message, message.Request.Request, message.ReplyMsg.ReplyMsg}
 use Rattle.psd_wire.specs.declared.message.Message.TheVariants as m
-use Rattle.psd_wire.specs.declared.message.Request.{Request}
-use Rattle.psd_wire.specs.declared.message.ReplyMsg.{ReplyMsg}
 use Rattle.psd_wire.specs.Grammar.{IsCoded, IsWhole, spell, sum_size}
-use Rattle.centre_ledger.specs.declared.rows.DeviceRow.{DeviceRow}
-use Rattle.centre_ledger.specs.declared.rows.Enrolment.{Enrolment}
-use Rattle.centre_ledger.specs.declared.rows.Enrolment.TheVariants.{Registered, Enrolled, Withdrawn}
+use Rattle.centre_ledger.specs.declared.{rows.DeviceRow.DeviceRow, rows.Enrolment.Enrolment, rows.Enrolment.TheVariants.Registered, rows.Enrolment.TheVariants.Enrolled, rows.Enrolment.TheVariants.Withdrawn}
 use Rattle.centre_ledger.specs.Rows.{customer_number}
 use Rattle.centre_ledger.specs.Soundness.{IsSoundDevice}
 use Rattle.centre_ledger.specs.Payload.{state_number, head_table, head, sums_table, request_size, reply_size, kept, request_part, reply_part, end_part, device_spelled, DeviceFits, IsOld}
@@ -93,7 +88,8 @@ pub record IsSpelling (version : ℕ) (payload : List ℕ) (r : DeviceRow) : Typ
 
 -- == the messages ==
 
--- how many of its bytes are the Request, of which the first tells its version: without the code, in version 2 of the row
+-- How many of its bytes are the Request: in version 2 of the row the Request is without its code. The first of the bytes is
+-- the Request's version.
 abbrev pub request_front : ℕ → ℕ → ℕ
 request_front version first = if version == 1 then 71 else if first == 1 then 39 else 55
 

@@ -2,12 +2,7 @@
 use Rattle.std.specs.Prelude.{◌≡◌, ℕ, ◌+◌, ◌-◌, ◌<◌, ◌≤◌, ◌^◌, ◌⊎◌, Bool, List, [], ◌∷◌, ◌++◌, ◌==◌, if◌then◌else◌, length, take, get_or, replicate}
 use Rattle.bench_base.specs.Table.{Size, One, Four, Eight, row, Fit}
 use Rattle.psd_wire.specs.Grammar.{sum_size}
-use Rattle.centre_ledger.specs.declared.rows.DeviceRow.{DeviceRow}
-use Rattle.centre_ledger.specs.declared.rows.CustomerRow.{CustomerRow}
-use Rattle.centre_ledger.specs.declared.rows.Enrolment.{Enrolment}
-use Rattle.centre_ledger.specs.declared.rows.Enrolment.TheVariants.{Registered, Enrolled, Withdrawn}
-use Rattle.centre_ledger.specs.declared.rows.Row.{Row}
-use Rattle.centre_ledger.specs.declared.rows.Row.TheVariants.{Device, Customer}
+use Rattle.centre_ledger.specs.declared.{rows.DeviceRow.DeviceRow, rows.CustomerRow.CustomerRow, rows.Enrolment.Enrolment, rows.Enrolment.TheVariants.Registered, rows.Enrolment.TheVariants.Enrolled, rows.Enrolment.TheVariants.Withdrawn, rows.Row.Row, rows.Row.TheVariants.Device, rows.Row.TheVariants.Customer}
 use Rattle.centre_ledger.specs.Rows.{customer_number}
 use Rattle.centre_ledger.specs.Soundness.{IsSoundDevice, IsSoundCustomer}
 
@@ -18,7 +13,7 @@ state_number Registered = 1
 state_number (Enrolled w) = 2
 state_number (Withdrawn w) = 3
 
--- in version 2 it is 16 more, so this byte tells the version
+-- in version 2 it is 16 more, so this byte shows the version
 abbrev pub state_byte : ℕ → ℕ → ℕ
 state_byte version state = if version == 1 then state else state + 16
 
@@ -36,7 +31,7 @@ sums_table version = Four ∷ Four ∷ sum_size version ∷ sum_size version ∷
 abbrev pub sums : DeviceRow → List ℕ
 sums r = r.ruled ∷ r.settled ∷ r.buys ∷ r.returns ∷ []
 
--- how many bytes the last Request and the Reply to it have, and how many zeros stand at the end
+-- how many bytes the last Request and the Reply to it have, and how many zeros are at the end
 abbrev pub request_size : ℕ → ℕ
 request_size version = if version == 1 then 71 else 55
 
@@ -58,7 +53,7 @@ kept version note = if version == 1 then note else uncoded note
 abbrev pub filled : ℕ → List ℕ → List ℕ
 filled size bytes = bytes ++ replicate (size - length bytes) 0
 
--- the bytes of a message, and zeros where there is none
+-- the bytes of a message, or zeros if there is no message
 unfoldable pub message_part : ℕ → ℕ → List ℕ → List ℕ
 message_part version size note = filled size (kept version note)
 
@@ -92,7 +87,7 @@ pub record DeviceFits (version : ℕ) (r : DeviceRow) : Type 0 where
   pub key : length r.key ≡ 32
   pub sums : Fit (sums_table version) (sums r)
 
--- what version 1 can spell: sums of four bytes (returns are at most buys), and messages of version 1, which their first byte tells
+-- what version 1 can spell: sums of four bytes (returns are at most buys), and messages of version 1, by their first byte
 pub record IsOld (r : DeviceRow) : Type 0 where
   pub buys : r.buys < 2 ^ 32
   pub request : 1 ≤ r.ruled → get_or r.request 0 0 ≡ 1

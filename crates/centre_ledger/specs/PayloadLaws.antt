@@ -1,9 +1,7 @@
--- How rows are told by their payloads.
+-- How rows are distinguished by their payloads.
 use Rattle.std.specs.Prelude.{◌≡◌, ℕ, List, length}
 use Rattle.bench_base.specs.Table.{Fit}
-use Rattle.centre_ledger.specs.declared.rows.DeviceRow.{DeviceRow}
-use Rattle.centre_ledger.specs.declared.rows.CustomerRow.{CustomerRow}
-use Rattle.centre_ledger.specs.declared.rows.Row.{Row}
+use Rattle.centre_ledger.specs.declared.{rows.DeviceRow.DeviceRow, rows.CustomerRow.CustomerRow, rows.Row.Row}
 use Rattle.centre_ledger.specs.Soundness.{IsSoundDevice, IsSoundCustomer}
 use Rattle.centre_ledger.specs.Payload.{device_bytes, DeviceFits, DeviceReadsAs, customer_table, customer_values, customer_bytes, CustomerReadsAs, RowReadsAs}
 

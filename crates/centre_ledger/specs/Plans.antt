@@ -1,25 +1,20 @@
 -- How each call of the centre is reported, and what the ledger plans for it: its act, by what is looked up in the commits, the newest first. Amounts
 -- are in mills.
 use Rattle.std.specs.Prelude.{ℕ, ◌-◌, Bool, List, Option, option_map}
-use Rattle.bench_base.specs.declared.ledger.Commit.{Commit}
-use Rattle.bench_base.specs.declared.events.Reply.{Reply}
+use Rattle.bench_base.specs.declared.{ledger.Commit.Commit, events.Reply.Reply}
 use Rattle.bench_base.specs.declared.events.Reply.TheVariants as r
 use Rattle.bench_base.specs.Plans.{Plan}
-use Rattle.node_acts.specs.declared.act.Act.{Act}
-use Rattle.node_acts.specs.declared.said.Said.{Said}
+use Rattle.node_acts.specs.declared.{act.Act.Act, said.Said.Said}
 use Rattle.node_acts.specs.Said.{replies, sends, saying, said_plan}
 use Rattle.ledger_terms.specs.Centres.{registered, balance}
 use Rattle.ledger_terms.specs.InFlight.{in_flight, acknowledged_resets, acknowledged_refunds}
-use Rattle.centre_ledger.specs.declared.rows.Row.{Row}
-use Rattle.centre_ledger.specs.declared.acts.Deposit.{Deposit}
-use Rattle.centre_ledger.specs.declared.standing.Standing.{Standing}
-use Rattle.centre_ledger.specs.declared.taking.CentreAnswer.{CentreAnswer}
+use Rattle.centre_ledger.specs.declared.{rows.Row.Row, acts.Deposit.Deposit, standing.Standing.Standing, taking.CentreAnswer.CentreAnswer}
 use Rattle.centre_ledger.specs.declared.taking.CentreAnswer.TheVariants as answer
 use Rattle.centre_ledger.specs.Acts.{CentreAct, LookUps, register_by, open_by, flag_by, deposit_by, balance_by, stand_by, take_by}
 use Rattle.centre_ledger.specs.Records.{device_row, customer_row}
 use Rattle.centre_ledger.specs.Standing.{flight_shown}
 
--- == what is told ==
+-- == what is reported ==
 
 -- an act, by how it says what it answers
 abbrev pub says : {A : Type 0} → (A → Said) → CentreAct A → Act Row Reply Said

@@ -1,16 +1,11 @@
 -- The rows of the centre after a list of commits, the newest first. Amounts are in mills.
 use Rattle.std.specs.Prelude.{◌≡◌, ℕ, Bool, true, false, List, [], ◌∷◌, Option, Some, None, option_map, ◌==◌, is_some, if◌then◌else◌}
-use Rattle.bench_base.specs.declared.words.Verdict.{Verdict}
-use Rattle.bench_base.specs.declared.ledger.Commit.{Commit}
-use Rattle.bench_base.specs.declared.ledger.Commit.TheVariants.{Ruled}
+use Rattle.bench_base.specs.declared.{words.Verdict.Verdict, ledger.Commit.Commit, ledger.Commit.TheVariants.Ruled}
 use Rattle.psd_wire.specs.declared.message.Request.{Request}
 use Rattle.ledger_terms.specs.Sums.{bought, returned}
 use Rattle.ledger_terms.specs.Centres.{registered, enrolled, withdrawn, ruled, settled, opened, suspended, deposits, receipt, balance}
 use Rattle.ledger_terms.specs.Rulings.{stored_reply, payer, own_customer}
-use Rattle.centre_ledger.specs.declared.rows.DeviceRow.{DeviceRow}
-use Rattle.centre_ledger.specs.declared.rows.CustomerRow.{CustomerRow}
-use Rattle.centre_ledger.specs.declared.rows.Enrolment.{Enrolment}
-use Rattle.centre_ledger.specs.declared.rows.Enrolment.TheVariants.{Registered, Enrolled, Withdrawn}
+use Rattle.centre_ledger.specs.declared.{rows.DeviceRow.DeviceRow, rows.CustomerRow.CustomerRow, rows.Enrolment.Enrolment, rows.Enrolment.TheVariants.Registered, rows.Enrolment.TheVariants.Enrolled, rows.Enrolment.TheVariants.Withdrawn}
 use Rattle.centre_ledger.specs.Rows.{enrolled_in, is_withdrawn, is_suspended}
 
 -- == the last ruling ==
@@ -87,7 +82,18 @@ pub record IsCustomerOf (r : CustomerRow) (C : List Commit) : Type 0 where
 
 -- a device that is only registered
 abbrev pub registered_row : ℕ → ℕ → List ℕ → DeviceRow
-registered_row d origin key = record { device = d; enrolment = Registered; origin = origin; key = key; ruled = 0; settled = 0; buys = 0; returns = 0; request = []; reply = [] }
+registered_row d origin key = record {
+  device = d;
+  enrolment = Registered;
+  origin = origin;
+  key = key;
+  ruled = 0;
+  settled = 0;
+  buys = 0;
+  returns = 0;
+  request = [];
+  reply = [];
+}
 
 -- a customer without deposits
 abbrev pub opened_row : ℕ → CustomerRow

@@ -1,22 +1,15 @@
 -- What the centre's rows show, and what they become.
 use Rattle.std.specs.Prelude.{◌≡◌, ℕ, ℤ, pos, ◌+◌, ◌+ℤ◌, Bool, true, false, ◌&&◌, List, Option, Some, None, Result, Ok, Err, is_some, if◌then◌else◌}
-use Rattle.bench_base.specs.declared.words.Kind.TheVariants.{Enrol, Withdraw}
-use Rattle.bench_base.specs.declared.words.Verdict.{Verdict}
-use Rattle.bench_base.specs.declared.words.Verdict.TheVariants.{Granted, NoFunds, Imbalance}
+use Rattle.bench_base.specs.declared.{words.Kind.TheVariants.Enrol, words.Kind.TheVariants.Withdraw, words.Verdict.Verdict, words.Verdict.TheVariants.Granted, words.Verdict.TheVariants.NoFunds, words.Verdict.TheVariants.Imbalance, refusals.CentreRefusal.CentreRefusal}
 use Rattle.bench_base.specs.Kinds.{same_kind, is_granted, is_dated}
 use Rattle.bench_base.specs.Ranges.{IsCustomer}
-use Rattle.psd_wire.specs.declared.message.Request.{Request}
-use Rattle.psd_wire.specs.declared.message.ReplyMsg.{ReplyMsg}
+use Rattle.psd_wire.specs.declared.{message.Request.Request, message.ReplyMsg.ReplyMsg}
 use Rattle.psd_wire.specs.declared.message.Message.TheVariants as m
 use Rattle.psd_wire.specs.Grammar.{spell}
 use Rattle.ledger_terms.specs.Centres.{is_some_at}
 use Rattle.ledger_terms.specs.Sums.{adds, takes}
-use Rattle.bench_base.specs.declared.refusals.CentreRefusal.{CentreRefusal}
 use Rattle.ledger_terms.specs.Rulings.{Account, own_customer, written_amount}
-use Rattle.centre_ledger.specs.declared.rows.DeviceRow.{DeviceRow}
-use Rattle.centre_ledger.specs.declared.rows.CustomerRow.{CustomerRow}
-use Rattle.centre_ledger.specs.declared.rows.Enrolment.{Enrolment}
-use Rattle.centre_ledger.specs.declared.rows.Enrolment.TheVariants.{Registered, Enrolled, Withdrawn}
+use Rattle.centre_ledger.specs.declared.{rows.DeviceRow.DeviceRow, rows.CustomerRow.CustomerRow, rows.Enrolment.Enrolment, rows.Enrolment.TheVariants.Registered, rows.Enrolment.TheVariants.Enrolled, rows.Enrolment.TheVariants.Withdrawn}
 
 -- == an enrolment ==
 
@@ -91,7 +84,8 @@ withdrawn_of (Withdrawn w) = Withdrawn w
 
 -- a granted enrolment enrols under the customer that it names, a granted withdrawal withdraws
 abbrev pub enrolment_after : Enrolment → Verdict → Request → Enrolment
-enrolment_after e v q = if is_granted v && same_kind q.kind Enrol then Enrolled q.customer else if is_granted v && same_kind q.kind Withdraw then withdrawn_of e else e
+enrolment_after e v q = if is_granted v && same_kind q.kind Enrol then Enrolled q.customer
+    else if is_granted v && same_kind q.kind Withdraw then withdrawn_of e else e
 
 -- an enrolment that is granted names a customer
 abbrev pub NamesCustomer : Verdict → Request → Type 0

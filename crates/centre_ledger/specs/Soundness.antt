@@ -1,17 +1,14 @@
 -- What holds of each row that the centre keeps. Amounts are in mills.
 use Rattle.std.specs.Prelude.{◌≡◌, ℕ, ◌+◌, ◌^◌, ◌<◌, ◌≤◌, ◌↔◌, true, List, [], Option, Some, None, IfSome, Ok}
-use Rattle.bench_base.specs.declared.words.Kind.TheVariants.{Reset}
-use Rattle.bench_base.specs.declared.words.Verdict.{Verdict}
+use Rattle.bench_base.specs.declared.{words.Kind.TheVariants.Reset, words.Verdict.Verdict}
 use Rattle.bench_base.specs.Kinds.{same_kind, empties, is_granted}
 use Rattle.bench_base.specs.Ranges.{IsCustomer}
-use Rattle.psd_wire.specs.declared.message.Request.{Request}
-use Rattle.psd_wire.specs.declared.message.ReplyMsg.{ReplyMsg}
+use Rattle.psd_wire.specs.declared.{message.Request.Request, message.ReplyMsg.ReplyMsg}
 use Rattle.psd_wire.specs.declared.message.Message.TheVariants as m
 use Rattle.psd_wire.specs.Grammar.{IsWhole, HasCode, spell, read}
 use Rattle.ledger_terms.specs.Requests.{request_in}
 use Rattle.ledger_terms.specs.Rulings.{payer, verdict_by}
-use Rattle.centre_ledger.specs.declared.rows.DeviceRow.{DeviceRow}
-use Rattle.centre_ledger.specs.declared.rows.CustomerRow.{CustomerRow}
+use Rattle.centre_ledger.specs.declared.{rows.DeviceRow.DeviceRow, rows.CustomerRow.CustomerRow}
 use Rattle.centre_ledger.specs.Rows.{enrolled_in, account}
 
 -- the last Request and the Reply to it, under the device's key

@@ -1,11 +1,8 @@
 -- What a device's row shows of its last ruling, of the one in flight, and of what is acknowledged. Amounts are in mills.
 use Rattle.std.specs.Prelude.{ℕ, ◌-◌, List, Option, Some, None, Result, Ok, nat_lt, if◌then◌else◌}
-use Rattle.bench_base.specs.declared.words.Kind.{Kind}
-use Rattle.bench_base.specs.declared.words.Verdict.{Verdict}
+use Rattle.bench_base.specs.declared.{words.Kind.Kind, words.Verdict.Verdict, refusals.Unread.Unread}
 use Rattle.bench_base.specs.Kinds.{is_granted}
-use Rattle.bench_base.specs.declared.refusals.Unread.{Unread}
-use Rattle.psd_wire.specs.declared.message.Request.{Request}
-use Rattle.psd_wire.specs.declared.message.Message.{Message}
+use Rattle.psd_wire.specs.declared.{message.Request.Request, message.Message.Message}
 use Rattle.psd_wire.specs.declared.message.Message.TheVariants as m
 use Rattle.psd_wire.specs.Grammar.{read}
 use Rattle.ledger_terms.specs.Requests.{request_in}

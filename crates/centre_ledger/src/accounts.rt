@@ -117,8 +117,8 @@ impl Accounts {
         }
     }
 
-    /// These rows, each of which is sound and in its own place. None if and only if they do not agree: where the customer
-    /// of a device is not open, or a customer has less than 0.
+    /// These rows, each sound and in its own place. None if and only if they do not agree: the customer of a device is not
+    /// open, or a customer has less than 0.
     pub fn of(
         devices: [Option<ReadyRow>; 8],
         customers: [Option<CustomerRow>; 64],

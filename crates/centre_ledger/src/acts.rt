@@ -107,7 +107,7 @@ pub fn flag_act(customer: Customer, suspended: bool, accounts: &Accounts) -> Cen
     }
 }
 
-// The deposits after it are told, and whether it came before.
+// Reports the deposits after it, and whether it came before.
 fn taken_act(customer: Customer, receipt: u32, amount: u32, row: &CustomerRow) -> CentreAct<Deposit>
     requires { IsSoundCustomer row.now }
     ensures { result ≡ act_of.deposited_act customer receipt amount (Some row.now) }

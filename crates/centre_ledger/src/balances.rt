@@ -60,7 +60,7 @@ pub fn balance_of(devices: &[Option<DeviceRow>], row: &CustomerRow) -> Option<u6
     Some(balance as u64)
 }
 
-// What the customer of this row has left, and 0 where there is none; None if and only if that is below 0.
+// What the customer of this row has left, or 0 if there is no row; None if and only if that is below 0.
 fn left_of(devices: &[Option<DeviceRow>], slot: &Option<CustomerRow>) -> Option<u64>
     requires count { length devices.now ≤ 8 }
     requires devices { All (λ o. IfSome o IsSoundDevice) devices.now }

@@ -17,7 +17,7 @@ pub fn uncoded(note: &Note) -> &[u8]
     &bytes[..bytes.len().saturating_sub(32)]
 }
 
-/// How many of the bytes are the Request, in a row of this version; the first of them tells the Request's own.
+/// How many of the bytes are the Request, in a row of this version. The first of the bytes is the Request's own version.
 pub fn request_front(version: u8, first: u8) -> usize
     ensures value { result ≡ parts.request_front version first }
     ensures most { result ≤ layout.request_size version }
@@ -75,7 +75,7 @@ fn kept(version: u8, front: usize, bytes: &[u8], key: &ReadyKey) -> Option<Note>
     }
 }
 
-// The message of these bytes, whose code is right.
+// The message of these bytes, if its code is right.
 fn with_code(bytes: &[u8], key: &ReadyKey) -> Option<Note>
     requires { length bytes.now ≤ 87 }
     ensures found { IfSome result (λ note. IsSpelled key.now note × (note ≡ bytes.now)) }

@@ -4,8 +4,7 @@ ghost use Rattle.bench_base.specs.Rules.{IsVersion};
 ghost use Rattle.bench_base.specs.Table.{Fit, bytes_in};
 ghost use Rattle.psd_wire.specs.Grammar.{sum_size};
 ghost use Rattle.bench_base.specs.Ranges.{IsCustomer};
-ghost use Rattle.centre_ledger.specs.declared.rows.DeviceRow.{DeviceRow as TheRow};
-ghost use Rattle.centre_ledger.specs.declared.rows.Enrolment.{Enrolment as TheEnrolment};
+ghost use Rattle.centre_ledger.specs.declared.{rows.DeviceRow.DeviceRow as TheRow, rows.Enrolment.Enrolment as TheEnrolment};
 ghost use Rattle.centre_ledger.specs.Soundness.{IsSoundDevice};
 ghost use Rattle.centre_ledger.specs.Payload as layout;
 ghost use Rattle.centre_ledger.specs.Rows.{customer_of, enrolled_in};
@@ -95,7 +94,7 @@ fn read_second(device: DevNo, payload: &[u8]) -> Option<ReadyRow>
     with_messages(&row, 2, &payload[69..124], &payload[124..152])
 }
 
-// What a state and the number of a customer tell together; None if and only if they are those of no enrolment.
+// The enrolment that a state and the number of a customer encode; None if and only if they are those of no enrolment.
 fn enrolment_of(state: u8, customer: u32) -> Option<Enrolment>
     ensures found { IfSome result (IsToldBy state customer) }
     ensures none { IfNone result ((e : TheEnrolment) → IfSome (customer_of e) IsCustomer → IsToldBy state customer e → ⊥) }
@@ -230,7 +229,7 @@ fn sums_bytes(row: &DeviceRow) -> [u8; 24]
     bytes
 }
 
-// Five parts at their places, of which the last two are filled with zeros, and zeros at the end.
+// Five parts at their places, the last two filled with zeros, and zeros at the end.
 fn joined(head: &[u8; 13], key: &Key, sums: &[u8; 24], request: &[u8], reply: &[u8]) -> [u8; 192]
     requires request { length request.now ≤ 55 }
     requires reply { length reply.now ≤ 28 }

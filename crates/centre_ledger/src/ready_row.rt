@@ -1,4 +1,4 @@
-//! A device's row as the centre has it in memory: with the device's key made ready for codes.
+//! A device's row in the centre's memory, with the device's key made ready for codes.
 ghost use Rattle.std.specs.Prelude.{◌≡◌, Some};
 
 use crate::rows::DeviceRow;
@@ -24,7 +24,7 @@ impl Model for ReadyRow {
 }
 
 impl ReadyRow {
-    /// A row whose key is made ready now.
+    /// This row, with its key made ready now.
     pub fn new(row: &DeviceRow) -> ReadyRow
         ensures { result ≡ row.now }
     {
@@ -49,7 +49,7 @@ impl ReadyRow {
         &self.row
     }
 
-    /// The key by which messages are written and checked.
+    /// The key that messages are written and checked with.
     pub fn key(&self) -> &ReadyKey
         ensures { result.now ≡ self.now.key }
     {

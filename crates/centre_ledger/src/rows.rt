@@ -29,7 +29,7 @@ impl Enrolment {
         }
     }
 
-    /// The number of that customer, and 0 where there is none.
+    /// The number of that customer, or 0 if there is no customer.
     pub fn customer_number(&self) -> u32
         ensures { result ≡ of_rows.customer_number self.now }
     {

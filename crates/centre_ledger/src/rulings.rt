@@ -51,7 +51,7 @@ fn is_past_limits(version: u8, bought: u64, amount: u64) -> bool
     amount == 0 || amount > RESET_LIMIT || all > u128::from(buys_limit(version))
 }
 
-// Three sums from outside, each of which may be any number of eight bytes.
+// The sum of three numbers from outside, which may be any numbers of eight bytes.
 fn sum_of(ascending: u64, descending: u64, refunded: u64) -> u128
     ensures { result ≡ ascending + descending + refunded }
 {
@@ -85,11 +85,17 @@ fn is_suspended(customer: Option<&CustomerRow>) -> bool
 
 /// The verdict on a request of the device.
 ///
-/// The customer is the row of the one that an enrolment names, and otherwise of the device's own customer. The
-/// balance, in mills, is that of the device's own customer, and 0 where it has none. The first that holds:
-/// `NotEnrolled` for all but an enrolment of a device that isn't enrolled, or no longer; `EnrolledAlready` for an
-/// enrolment of one that was; `Imbalance` where the request disagrees with what was granted before; `NoCustomer`
-/// and `Suspended` by the customer's row; `NoFunds` for a reset above the balance.
+/// The customer is the row of the one that an enrolment names, and otherwise of the device's own customer. The balance, in
+/// mills, is that of the device's own customer, or 0 if the device has no customer. The first verdict that holds is
+/// returned:
+///
+/// 1. `NotEnrolled` for all but an enrolment, if the device isn't enrolled, or no longer.
+/// 2. `EnrolledAlready` for an enrolment of a device that was enrolled before.
+/// 3. `Imbalance` if the request disagrees with what was granted before.
+/// 4. `NoCustomer` for an enrolment, if the customer has no row.
+/// 5. `Suspended` for an enrolment or a reset, if the customer is suspended.
+/// 6. `NoFunds` for a reset above the balance.
+/// 7. `Granted` otherwise.
 #[tactic(auto, unfolding(ledger_terms::specs::Rulings::verdict_by))]
 pub fn verdict(
     row: &DeviceRow,

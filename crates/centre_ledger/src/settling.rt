@@ -33,11 +33,14 @@ pub fn settled(row: &DeviceRow, number: u32) -> Result<Option<DeviceRow>, Centre
     }))
 }
 
-/// The row after the deposit of this receipt and amount, in mills; None where it is the last one again.
+/// The row after the deposit of this receipt and amount, in mills; None if it is the last one again.
 ///
-/// The first refusal that holds: `Conflict`, with the amount kept, where the receipt is the last one, from 1 on, with
-/// another amount; `WrongReceipt`, with the last one, where it isn't the one after the last; `BadAmount` where the
-/// amount is 0 or above 1,000,000,000; `DepositsFull`, with the deposits so far, where they would pass 10^15.
+/// The first refusal that holds is answered:
+///
+/// 1. `Conflict`, with the amount kept, if the receipt is the last one, from 1 on, with another amount.
+/// 2. `WrongReceipt`, with the last one, if the receipt isn't the one after the last.
+/// 3. `BadAmount` if the amount is 0 or above 1,000,000,000.
+/// 4. `DepositsFull`, with the deposits so far, if they would pass 10^15.
 pub fn deposited(
     row: &CustomerRow,
     receipt: u32,
@@ -73,8 +76,11 @@ pub fn deposited(
 
 /// Whether the bytes of a request of this number are those of the last one again; if not, they are to be ruled.
 ///
-/// The first refusal that holds, each with the greatest number that was ruled on: `Old` for a number below it and for
-/// 0, `Changed` for that number with other bytes, `Ahead` for a number above the next one.
+/// The first refusal that holds is answered, with the greatest number that was ruled on:
+///
+/// 1. `Old` for a number below it and for 0.
+/// 2. `Changed` for that number with other bytes.
+/// 3. `Ahead` for a number above the next one.
 pub fn is_repeat(row: &DeviceRow, number: u32, bytes: &[u8]) -> Result<bool, CentreRefusal>
     ensures exact { result ≡ turn_answer row.now.ruled row.now.request number bytes.now }
 {

@@ -1,8 +1,7 @@
 //! Whether a row that was read meets its conditions.
 ghost use Rattle.std.specs.Prelude.{◌≡◌, ◌↔◌, IfSome, IsTrue, None};
 ghost use Rattle.bench_base.specs.Ranges.{IsCustomer};
-ghost use Rattle.psd_wire.specs.declared.message.Request.{Request as TheRequest};
-ghost use Rattle.psd_wire.specs.declared.message.ReplyMsg.{ReplyMsg as TheReply};
+ghost use Rattle.psd_wire.specs.declared.{message.Request.Request as TheRequest, message.ReplyMsg.ReplyMsg as TheReply};
 ghost use Rattle.centre_ledger.specs.Parts as parts;
 ghost use Rattle.centre_ledger.specs.Parts.{IsSpelled, HasMessages, IsAnswer, IsCovered};
 ghost use Rattle.centre_ledger.specs.Rows.{customer_of};

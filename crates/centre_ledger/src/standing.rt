@@ -19,7 +19,7 @@ pub struct Standing {
     pub in_flight: Option<(Kind, u64)>,
 }
 
-/// The verdict of the last ruling, which stands in the reply that is kept, and its request.
+/// The verdict of the last ruling, from the reply that is kept, and its request.
 #[tactic(auto, unfolding(crate::specs::Standing::ruling_in))]
 pub fn ruling_in(row: &DeviceRow) -> Option<(Verdict, Note)>
     ensures { result ≡ stands.ruling_in row.now }

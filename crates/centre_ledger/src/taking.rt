@@ -56,7 +56,7 @@ fn payer(row: &DeviceRow, request: &Request) -> u32
     }
 }
 
-// The reply that is kept is given again, with the verdict that stands in it.
+// The reply that is kept is given again, with its verdict.
 fn repeated_act(row: &DeviceRow) -> CentreAct<CentreAnswer>
     ensures { result ≡ act_of.repeated_act row.now (stands.ruling_in row.now) }
 {
@@ -128,7 +128,7 @@ fn request_act(bytes: &[u8], request: &Request, accounts: &Accounts) -> CentreAc
     }
 }
 
-// A done whose code is the device's own.
+// A done with the device's own code.
 fn settled_act(row: &DeviceRow, number: u32) -> CentreAct<CentreAnswer>
     requires { IsSoundDevice row.now }
     ensures { result ≡ act_of.settled_act row.now number (settled_row row.now (settle_answer row.now.settled row.now.ruled number)) }
@@ -165,11 +165,16 @@ fn done_act(bytes: &[u8], done: &DoneMsg, accounts: &Accounts) -> CentreAct<Cent
     settled_act(kept.row(), done.number)
 }
 
-/// Takes a Request, of either version, or a Done. The first refusal that holds: `Unread` of `read_message`; `Unread` with
-/// `Tag` for another message; `UnknownDevice`, with its number, if and only if the device is not registered; `BadCode`
-/// if and only if the code does not match under the device's key; for a Request those of `is_repeat`; for a Done those of
-/// `settled`. A Request that is the last one again gets the reply that is kept, and a Done that was settled before is
-/// told so, both without a commit; another Request is ruled as `verdict` and `ruled` say, in one commit.
+/// Takes a Request, of either version, or a Done. The first refusal that holds is answered:
+///
+/// 1. `Unread` of `read_message`.
+/// 2. `Unread` with `Tag` for another message.
+/// 3. `UnknownDevice`, with its number, if and only if the device is not registered.
+/// 4. `BadCode` if and only if the code does not match under the device's key.
+/// 5. For a Request those of `is_repeat`, and for a Done those of `settled`.
+///
+/// A Request that is the last one again gets the reply that is kept, without a commit. A Done that was settled before is
+/// answered so, also without a commit. Another Request is ruled as `verdict` and `ruled` say, in one commit.
 pub fn take_act(bytes: &[u8], accounts: &Accounts) -> CentreAct<CentreAnswer>
     ensures { result ≡ act_of.take_act bytes.now accounts.now }
 {

@@ -1,4 +1,4 @@
--- That the rows can take what the calls of the centre commit.
+-- The rows can take what the calls of the centre commit.
 use Rattle.std.proofs.Common.{◌≡◌, sym, ◌∙◌, ap, subst}
 use Rattle.bench_base.specs.declared.ledger.Commit.{Commit}
 use Rattle.node_acts.specs.declared.act.Act.TheVariants.{Commits}

@@ -5,7 +5,7 @@ use Rattle.centre_ledger.specs.Seen.{books_in}
 use Rattle.row_node.specs.Tables.{Filled, seen_of}
 use Rattle.centre_protocol.specs.Cells.{books_kept}
 use Rattle.centre_protocol.specs.Table.{centre_table}
-use Rattle.centre_protocol.specs.declared.kept.CentreRows.{CentreRows}
+use Rattle.centre_protocol.specs.declared.rows.CentreRows.{CentreRows}
 
 -- so what is lent of them
 pub books_lent : (lent m : CentreRows) (held : ℕ → Option Held) → lent ≡ m → Filled centre_table m held → lent.accounts ≡ books_in (seen_of centre_table m held)

@@ -9,9 +9,7 @@ use Rattle.node_acts.specs.RowLaws.{listed_long, listed_at, listed_is, listed_sa
 use Rattle.nv_store.specs.Slot.{Held}
 use Rattle.node_storage.proofs.Called.{if_true, if_false}
 use Rattle.row_node.specs.Kept.{IsFilled, seen_by, seen_row}
-use Rattle.centre_ledger.specs.declared.rows.DeviceRow.{DeviceRow}
-use Rattle.centre_ledger.specs.declared.rows.CustomerRow.{CustomerRow}
-use Rattle.centre_ledger.specs.declared.rows.Row.{Row}
+use Rattle.centre_ledger.specs.declared.{rows.DeviceRow.DeviceRow, rows.CustomerRow.CustomerRow, rows.Row.Row}
 use Rattle.centre_ledger.specs.declared.rows.Row.TheVariants as row
 use Rattle.centre_ledger.specs.Books.{Books, put_row, no_rows}
 use Rattle.centre_ledger.specs.Soundness.{IsSoundDevice, IsSoundCustomer}
@@ -45,11 +43,13 @@ is_in (row.Customer r) has = (omega arith, omega arith)
 -- == laws: by cells ==
 
 pub device_below : (b : Books) (k : ℕ) → k < 8 → row_in b k ≡ option_map row.Device (get_or b.devices k None)
-device_below b k lt = if_true (nat_lt k 8) (option_map row.Device (get_or b.devices k None)) (option_map row.Customer (get_or b.customers (k - 8) None)) (lt-ltb k 8 lt)
+device_below b k lt = if_true (nat_lt k 8) (option_map row.Device (get_or b.devices k None))
+    (option_map row.Customer (get_or b.customers (k - 8) None)) (lt-ltb k 8 lt)
 
 pub customer_above : (b : Books) (i : ℕ) → row_in b (8 + i) ≡ option_map row.Customer (get_or b.customers i None)
 customer_above b i =
-    if_false (nat_lt (8 + i) 8) (option_map row.Device (get_or b.devices (8 + i) None)) (option_map row.Customer (get_or b.customers (8 + i - 8) None)) (le-ltb (8 + i) 8 (omega arith))
+    if_false (nat_lt (8 + i) 8) (option_map row.Device (get_or b.devices (8 + i) None))
+    (option_map row.Customer (get_or b.customers (8 + i - 8) None)) (le-ltb (8 + i) 8 (omega arith))
     ∙ ap (λ (j : ℕ). option_map row.Customer (get_or b.customers j None)) (back i)
   where
     back : (i : ℕ) → 8 + i - 8 ≡ i
@@ -96,7 +96,8 @@ books_kept b held places filled =
     (listed_is 8 (λ i. device_in (row_at s i)) None b.devices places.devices (λ i lt.
     sym (device_seen (row_at s i) ∙ ap device_of (row_is i (omega (arith, lt)) ∙ device_below b i lt) ∙ device_back (get_or b.devices i None))))
     (listed_is 64 (λ i. customer_in (row_at s (8 + i))) None b.customers places.customers (λ i lt.
-    sym (customer_seen (row_at s (8 + i)) ∙ ap customer_of (row_is (8 + i) (omega (arith, lt)) ∙ customer_above b i) ∙ customer_back (get_or b.customers i None))))
+    sym (customer_seen (row_at s (8 + i)) ∙ ap customer_of (row_is (8 + i) (omega (arith, lt)) ∙ customer_above b i)
+    ∙ customer_back (get_or b.customers i None))))
   where
     s : Seen
     s = seen_by CENTRE_CELLS held (row_in b)
@@ -164,7 +165,8 @@ row_here b (row.Device r) places has =
     ∙ ap (λ (o : Option DeviceRow). option_map row.Device o) (get_or-set_same b.devices (r.device - 1) (Some r) None (omega (arith, has, places.devices)))
 row_here b (row.Customer r) places has =
     ap (row_in (put_row b (row.Customer r))) (from_place r.customer has) ∙ customer_above (put_row b (row.Customer r)) (r.customer - 1)
-    ∙ ap (λ (o : Option CustomerRow). option_map row.Customer o) (get_or-set_same b.customers (r.customer - 1) (Some r) None (omega (arith, has, places.customers)))
+    ∙ ap (λ (o : Option CustomerRow). option_map row.Customer o)
+    (get_or-set_same b.customers (r.customer - 1) (Some r) None (omega (arith, has, places.customers)))
   where
     from_place : (w : ℕ) → IsCustomer w → 7 + w ≡ 8 + (w - 1)
     from_place w is = omega (arith, is)
@@ -174,7 +176,8 @@ row_other b (row.Device r) k has differs =
     ap (λ (o : Option DeviceRow). if nat_lt k 8 then option_map row.Device o else option_map row.Customer (get_or b.customers (k - 8) None))
     (get_or-set_other b.devices (r.device - 1) k (Some r) None differs)
 row_other b (row.Customer r) k has differs =
-    else_same (nat_lt k 8) (option_map row.Device (get_or b.devices k None)) (option_map row.Customer (get_or (set b.customers (r.customer - 1) (Some r)) (k - 8) None))
+    else_same (nat_lt k 8) (option_map row.Device (get_or b.devices k None))
+    (option_map row.Customer (get_or (set b.customers (r.customer - 1) (Some r)) (k - 8) None))
     (option_map row.Customer (get_or b.customers (k - 8) None))
     (λ is. ap (λ (o : Option CustomerRow). option_map row.Customer o)
     (get_or-set_other b.customers (r.customer - 1) (k - 8) (Some r) None (λ same. differs (omega (arith, has, ltb-false k 8 is, same)))))
@@ -209,4 +212,5 @@ no_row k =
 -- blank cells hold none
 pub none_hold : (held : ℕ → Option Held) → ((k : ℕ) → held k ≡ None) → HoldRows (row_in no_rows) held
 none_hold held none k lt =
-    subst (λ (o : Option Row). IsFilled (IsPayloadOf k) o (held k)) (sym (no_row k)) (subst (λ (h : Option Held). IsFilled (IsPayloadOf k) None h) (sym (none k)) tt)
+    subst (λ (o : Option Row). IsFilled (IsPayloadOf k) o (held k)) (sym (no_row k))
+    (subst (λ (h : Option Held). IsFilled (IsPayloadOf k) None h) (sym (none k)) tt)

@@ -1,8 +1,6 @@
 -- What contracts see of the centre and of its calls.
 use Rattle.std.specs.Prelude.{Option, Result}
-use Rattle.bench_base.specs.declared.ledger.Commit.{Commit}
-use Rattle.bench_base.specs.declared.refusals.CentreRefusal.{CentreRefusal}
-use Rattle.bench_base.specs.declared.refusals.Fail.{Fail}
+use Rattle.bench_base.specs.declared.{ledger.Commit.Commit, refusals.CentreRefusal.CentreRefusal, refusals.Fail.Fail}
 use Rattle.nv_model.specs.declared.nv.Nv.{Ghosts}
 use Rattle.centre_ledger.specs.Acts.{CentreAct}
 use Rattle.centre_ledger.specs.Books.{Books}

@@ -7,7 +7,7 @@ use Rattle.nv_store.specs.declared.room.Room.{Room}
 use Rattle.centre_ledger.specs.declared.rows.Row.{Row}
 use Rattle.row_node.specs.declared.node.RowNode.{RowNode}
 use Rattle.row_node.specs.contracts.cells.RoomCells.TheImpl as cells
-use Rattle.centre_protocol.specs.declared.kept.CentreRows.{CentreRows}
+use Rattle.centre_protocol.specs.declared.rows.CentreRows.{CentreRows}
 use Rattle.centre_protocol.specs.contracts.rows.CentreRowsRows.TheImpl as rows
 
 abbrev pub CentreNode : (N : Type 0) → Ghosts N → Type 0

@@ -1,4 +1,4 @@
--- That there is a place for each device and each customer.
+-- There is a place for each device and each customer.
 use Rattle.std.specs.Prelude.{◌≡◌, length}
 use Rattle.centre_ledger.specs.Books.{Books}
 

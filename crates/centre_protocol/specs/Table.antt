@@ -14,9 +14,7 @@ use Rattle.row_node.specs.Tables.{Table, seen_of}
 use Rattle.row_node.specs.Boots.{Found}
 use Rattle.row_node.specs.Counts.{few_found, few_after}
 use Rattle.row_node.specs.Laws.{Laws}
-use Rattle.centre_ledger.specs.declared.rows.DeviceRow.{DeviceRow}
-use Rattle.centre_ledger.specs.declared.rows.CustomerRow.{CustomerRow}
-use Rattle.centre_ledger.specs.declared.rows.Row.{Row}
+use Rattle.centre_ledger.specs.declared.{rows.DeviceRow.DeviceRow, rows.CustomerRow.CustomerRow, rows.Row.Row}
 use Rattle.centre_ledger.specs.declared.rows.Row.TheVariants as row
 use Rattle.centre_ledger.specs.Books.{AreSound}
 use Rattle.centre_ledger.specs.Payload.{row_bytes}
@@ -26,7 +24,7 @@ use Rattle.centre_ledger.specs.Seen.{Seen, cell_of, counting, books_in}
 use Rattle.centre_protocol.specs.Payloads.{IsIn, IsPayloadOf}
 use Rattle.centre_protocol.specs.Cells.{HasCell, row_in, cell_inside, is_in, cells_put}
 use Rattle.centre_protocol.specs.Sound.{IsSound, IsFit}
-use Rattle.centre_protocol.specs.declared.kept.CentreRows.{CentreRows}
+use Rattle.centre_protocol.specs.declared.rows.CentreRows.{CentreRows}
 
 pub payload_prop : (k : ℕ) (x : Row) (p : List ℕ) → IsProp (IsPayloadOf k x p)
 payload_prop k (row.Device r) p = hlevel props
@@ -97,7 +95,8 @@ stays_sound s x sound has fits fresh = record {
   };
   placed = λ k. elim (cases_eq k (cell_of x)) [
     | inl is ↦
-        subst (λ (o : Option (ℕ × Row)). IfSome (row_of o) (IsIn k)) (sym (ap (row_at (put s (cell_of x) x)) is ∙ here)) (subst (λ (j : ℕ). IsIn j x) (sym is) (is_in x has))
+        subst (λ (o : Option (ℕ × Row)). IfSome (row_of o) (IsIn k)) (sym (ap (row_at (put s (cell_of x) x)) is ∙ here))
+        (subst (λ (j : ℕ). IsIn j x) (sym is) (is_in x has))
     | inr differs ↦ subst (λ (o : Option (ℕ × Row)). IfSome (row_of o) (IsIn k)) (sym (put_other s (cell_of x) x k differs)) (sound.placed k)
   ];
 }

@@ -30,7 +30,7 @@ fn device_in(room: &Room<ROW_BYTES>, place: u32) -> Result<Option<ReadyRow>, ()>
     }
 }
 
-// So of a customer, whose cells lie behind those of the devices.
+// The same for a customer. The customers' cells follow those of the devices.
 fn customer_in(room: &Room<ROW_BYTES>, place: u32) -> Result<Option<CustomerRow>, ()>
     requires cells { cells_of room.now ≡ CENTRE_CELLS }
     requires inside { place < 64 }

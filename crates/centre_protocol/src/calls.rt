@@ -1,9 +1,9 @@
 //! The calls of the centre. Money is in mills.
 //!
 //! A call that commits answers `Store` with `Failed`, before every refusal, if and only if an earlier call of this value
-//! answered Power or Fault; after every refusal it answers Power or Fault where its commit failed, and Worn where the cell
-//! of the row has 4,294,967,295 commits. A refusal, Worn, and an answer that needs no commit leave the centre and its
-//! storage as they were. The others never answer `Store`.
+//! answered Power or Fault. After every refusal it answers Power or Fault if its commit failed, and Worn if the cell of the
+//! row has 4,294,967,295 commits. A refusal, Worn, and an answer that needs no commit leave the centre and its storage as
+//! they were. The other calls never answer `Store`.
 ghost use Rattle.std.specs.Prelude.{◌≡◌};
 ghost use Rattle.node_acts.specs.Results.{answer_of};
 ghost use Rattle.centre_ledger.specs.Acts as act_of;
@@ -46,7 +46,7 @@ impl<N: Nv> Centre<N> {
         self.perform(act)
     }
 
-    /// Deposits the amount under this receipt: see `deposit_act`. The last deposit is told once more without a commit.
+    /// Deposits the amount under this receipt: see `deposit_act`. The last deposit is answered once more without a commit.
     pub fn deposit(
         &mut self,
         customer: Customer,

@@ -11,7 +11,7 @@ ghost use Rattle.centre_protocol.specs.Payloads.{IsDamaged};
 ghost use Rattle.centre_protocol.specs.Table.{centre_table};
 ghost use Rattle.row_node.specs.Boots.{AllShowSound};
 
-use crate::kept::CentreRows;
+use crate::rows::CentreRows;
 use bench_base::ledger::Commit;
 use bench_base::refusals::{BootFail, CentreFail};
 use bench_base::sizes::{CENTRE_CELLS, ROW_BYTES};
@@ -30,12 +30,17 @@ impl<N: Nv> Centre<N> {
     ghost use Rattle.centre_ledger.specs.Books.{balances_by};
     ghost use Rattle.centre_protocol.specs.CentreView.{storage_of, seen_of, books_of, torn_of, Starts, CanCommit, Performs};
 
-    /// The centre in its storage and in memory for 72 cells, or why it does not start, with both. Power is not lost. Nothing
-    /// is written.
+    /// The centre in its storage and in memory for 72 cells, or why it does not start, with both. Power is not lost.
+    /// Nothing is written.
     ///
-    /// `Damaged` where the storage has not 28,368 bytes; where a cell has an open slot of count 0 or two open slots of equal
-    /// counts; where a current payload reads as no row of its device or customer; and where the rows do not agree: the
-    /// customer of a device is not open, or a customer has less than 0. Blank storage is a centre with no rows.
+    /// `Damaged` is returned in these cases:
+    ///
+    /// 1. The storage has not 28,368 bytes.
+    /// 2. A cell has an open slot of count 0, or two open slots of equal counts.
+    /// 3. A current payload reads as no row of its device or customer.
+    /// 4. The rows do not agree: the customer of a device is not open, or a customer has less than 0.
+    ///
+    /// Blank storage is a centre with no rows.
     pub fn boot(nv: N, room: Room<ROW_BYTES>) -> Result<Centre<N>, (N, Room<ROW_BYTES>, BootFail)>
         requires powered { (N.meters nv).lost ≡ false }
         requires cells { cells_of room ≡ CENTRE_CELLS }

@@ -1,5 +1,5 @@
 //! What the centre lends to its calls.
-use crate::kept::{CentreNode, CentreRows};
+use crate::rows::{CentreNode, CentreRows};
 use centre_ledger::{Accounts, BooksOf};
 use nv_model::Nv;
 

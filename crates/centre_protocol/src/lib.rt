@@ -4,10 +4,9 @@
 mod boot;
 mod calls;
 mod centre;
-mod kept;
 mod lending;
 mod rows;
 
 pub use centre::Centre;
 pub use centre_ledger::{CentreAnswer, Deposit, Standing};
-pub use kept::{CentreNode, CentreRoom, CentreRows};
+pub use rows::{CentreNode, CentreRoom, CentreRows};

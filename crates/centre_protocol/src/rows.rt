@@ -1,16 +1,39 @@
-//! The rows of the centre as those of a node: the cell and the payload of a row, and how a row is kept.
+//! The rows of the centre, as its node keeps them, and the node.
+ghost use Rattle.centre_protocol.specs.Places.{HasPlaces};
 ghost use Rattle.std.specs.Prelude.{◌≡◌};
 ghost use Rattle.centre_ledger.specs.Payload.{RowReadsAs, row_bytes};
 ghost use Rattle.centre_ledger.specs.Seen.{cell_of};
 ghost use Rattle.centre_protocol.specs.Cells.{HasCell, IsSoundRow};
 
 use crate::boot::{customers_in, devices_in};
-use crate::kept::CentreRows;
 use bench_base::sizes::{CENTRE_CELLS, ROW_BYTES};
 use centre_ledger::{Accounts, Row};
 use nv_store::Room;
-use row_node::Rows;
+use row_node::{RowNode, RowRoom, Rows};
 use std::alloc::{AllocError, Global};
+
+/// The rows that the cells hold, with what each customer has left.
+#[derive(Drop)]
+pub struct CentreRows {
+    pub(crate) accounts: Accounts,
+    ghost places: { HasPlaces accounts },
+}
+
+/// Memory for the 72 cells of the centre, and for its rows.
+pub type CentreRoom = RowRoom<CentreRows>;
+
+/// The centre over storage of 28,368 bytes: a cell of two slots for each device and each customer, with its row as payload.
+/// While it is off, what it knew of its storage counts for nothing.
+pub type CentreNode<N> = RowNode<N, CentreRows>;
+
+impl CentreRows {
+    /// No rows.
+    pub(crate) fn none() -> CentreRows {
+        CentreRows {
+            accounts: Accounts::empty(),
+        }
+    }
+}
 
 // The cell that the row lies in: device d in cell d - 1, and customer w in cell w + 7.
 fn cell_of(row: &Row) -> u32

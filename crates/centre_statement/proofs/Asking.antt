@@ -1,12 +1,9 @@
 -- What it comes to that a balance is asked for.
 use Rattle.std.proofs.Common.{◌≡◌, ◌≢◌, ◌⊎◌, inl, inr, ℕ, ℤ, Bool, true, false, List, Option, Some, None, refl, sym, subst, ◌∙◌}
 use Rattle.std.specs.Prelude.{if◌then◌else◌}
-use Rattle.bench_base.specs.declared.words.Node.{Node}
-use Rattle.bench_base.specs.declared.words.Node.TheVariants.{Centre}
+use Rattle.bench_base.specs.declared.{words.Node.Node, words.Node.TheVariants.Centre, ledger.Commit.Commit, events.Reply.Reply}
 use Rattle.bench_base.specs.declared.refusals.CentreRefusal.TheVariants as no
-use Rattle.bench_base.specs.declared.ledger.Commit.{Commit}
 use Rattle.bench_base.specs.declared.events.Event.TheVariants as ev
-use Rattle.bench_base.specs.declared.events.Reply.{Reply}
 use Rattle.bench_base.specs.declared.events.Reply.TheVariants as r
 use Rattle.bench_base.specs.Ledger.{Ledger, day_in, is_on, counted}
 use Rattle.bench_base.specs.Plans.{Plan, refuse}
@@ -29,7 +26,7 @@ module _ (w : ℕ) (H : Ledger) where
   abbrev pub IsItsBalance : Reply → Type 0
   IsItsBalance reply = ((reply ≡ r.Balance w (balance w (counted H))) × (is_on Centre H ≡ true)) ⊎ ((b : ℕ) → reply ≢ r.Balance w b)
 
-  -- the plan adds nothing, and tells that
+  -- the plan adds nothing, and reports that
   record Asks (p : Plan) : Type 0 where
     silent : p.commit ≡ None
     plain : (K : Ledger) → after p p.reply K ≡ K
@@ -39,7 +36,7 @@ module _ (w : ℕ) (H : Ledger) where
   unknown : Asks (refuse (r.CentreRefused (no.UnknownCustomer w)))
   unknown = record { silent = refl; plain = λ K. refl; no_up = λ n k is. cc; told = inr (λ b is. cc) }
 
-  -- the plan of what is told of the customer, where it is open
+  -- the plan of the centre's answer about the customer, if the customer is open
   abbrev told_if : Bool → Plan
   told_if b = said_plan (says (told_balance w) (left_act w (balance w (counted H)) (if b then Some (customer_row_with w (counted H)) else None)))
 

@@ -4,27 +4,21 @@ use Rattle.std.specs.Prelude.{◌==◌, if◌then◌else◌}
 use Rattle.std.proofs.lemmas.Bool.{cases_eq, eqb-true, eq-eqb, ne_eqb, cond-true}
 use Rattle.std.proofs.lemmas.Int.{ints}
 use Rattle.std.proofs.lemmas.List.{append-nil}
-use Rattle.bench_base.specs.declared.words.Node.{Node}
-use Rattle.bench_base.specs.declared.words.Node.TheVariants.{Device, Centre, Host, Verifier}
-use Rattle.bench_base.specs.declared.ledger.Commit.{Commit}
-use Rattle.bench_base.specs.declared.ledger.Commit.TheVariants.{Deposited, Ruled}
-use Rattle.bench_base.specs.declared.ledger.Entry.{Entry}
+use Rattle.bench_base.specs.declared.{words.Node.Node, words.Node.TheVariants.Device, words.Node.TheVariants.Centre, words.Node.TheVariants.Host, words.Node.TheVariants.Verifier, ledger.Commit.Commit, ledger.Commit.TheVariants.Deposited, ledger.Commit.TheVariants.Ruled, ledger.Entry.Entry}
 use Rattle.bench_base.specs.declared.ledger.Entry.TheVariants as e
 use Rattle.bench_base.specs.Ledger.{Ledger, is_on, count_of, torn_of, at_up, counted}
 use Rattle.bench_base.specs.Nodes.{is_centre, node_of, same_node}
 use Rattle.bench_base.specs.Ranges.{IsCustomer}
 use Rattle.ledger_terms.specs.Centres.{balance}
 use Rattle.statement_check.specs.Places.{moved}
-use Rattle.statement_check.specs.declared.line.Cause.{Cause}
+use Rattle.statement_check.specs.declared.{line.Cause.Cause, line.Movement.Movement}
 use Rattle.statement_check.specs.declared.line.Cause.TheVariants as causes
-use Rattle.statement_check.specs.declared.line.Movement.{Movement}
 use Rattle.centre_statement.specs.Balances.{Follows, BalancesFollow, BalancesFit}
 use Rattle.centre_statement.specs.Changes.{change_in, left_after}
 use Rattle.centre_statement.specs.Desk.{View, Opened, moved_by, changed_by, noted, seen_entry}
 use Rattle.centre_statement.specs.Movements.{OpenedAt, movement_of, movements}
 use Rattle.centre_statement.specs.Watching.{one_more, settled_at, watched}
-use Rattle.centre_statement.specs.declared.change.Change.{Change}
-use Rattle.centre_statement.specs.declared.watch.Watch.{Watch}
+use Rattle.centre_statement.specs.declared.{change.Change.Change, watch.Watch.Watch}
 use Rattle.scan_laws.proofs.Tells.{IsCalm}
 
 -- == what goes together ==
@@ -252,7 +246,7 @@ one_count c C own = cond-true (same_node (node_of c) Centre) (count_of Centre C 
 apart_by_one : (k n : ℕ) → k ≡ n → k ≢ n + 1
 apart_by_one k n is more = omega (arith, is, more)
 
--- the count that it shows is that of the ledger behind it
+-- the count that it shows is that of the ledger after it
 shown_is : (k : ℕ) (C : List Commit) (t : Option Commit) → ((c : Commit) → t ≡ Some c → node_of c ≡ Centre) → (k ≡ count_of Centre C) ⊎ ((k ≡ count_of Centre C + 1) × IsSome t)
     → k ≡ count_of Centre (at_up t Centre k C)
 shown_is k C None own (inl is) = is
@@ -287,7 +281,7 @@ settles o current k C None commits same sound l = subst (λ (x : Option Commit).
 settles o current k C (Some c) commits same sound l =
     subst (λ (b : Bool). Lists o (noted (if b then Some c else None) current) (at_up (Some c) Centre k C)) (sym same) (lists_if o current c C (k == count_of Centre C + 1) sound l)
 
--- where no statement is open there is none behind it
+-- if no statement is open, none is open after it
 none_open : (current : Option Opened) (x : Option Commit) (C D : List Commit) → Lists None current C → Lists None (noted x current) D
 none_open None None C D l = l
 none_open None (Some c) C D l = l

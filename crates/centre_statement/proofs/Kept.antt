@@ -7,9 +7,7 @@ use Rattle.statement_check.specs.declared.line.Movement.{Movement}
 use Rattle.centre_statement.specs.Changes.{left_after}
 use Rattle.centre_statement.specs.Desk.{Opened, View, open_in, listed_in, moved_by, noted_by, seen_entry, seen}
 use Rattle.centre_statement.specs.Room.{HasRoom}
-use Rattle.centre_statement.specs.declared.change.Change.{Change}
-use Rattle.centre_statement.specs.declared.answer.Answer.{Answer}
-use Rattle.centre_statement.specs.declared.watch.Watch.{Watch}
+use Rattle.centre_statement.specs.declared.{change.Change.Change, answer.Answer.Answer, watch.Watch.Watch}
 use Rattle.centre_statement.specs.declared.answer.Answer.TheVariants as answers
 
 -- where a statement is open nothing is listed

@@ -8,8 +8,7 @@ use Rattle.script_replay.proofs.Nothing.{stands_for_none, bench_fresh}
 use Rattle.centre_statement.specs.Desk.{view_of, fresh}
 use Rattle.centre_statement.specs.Fresh.{DidFreshStatements}
 use Rattle.centre_statement.specs.Ran.{DidStatements}
-use Rattle.centre_statement.specs.declared.desk.StatementDesk.{StatementDesk}
-use Rattle.centre_statement.specs.declared.lines.OwnLine.{OwnLine}
+use Rattle.centre_statement.specs.declared.{desk.StatementDesk.StatementDesk, lines.OwnLine.OwnLine}
 
 module _ (n : Nodes) (old new : SceneOf n) (before after : StatementDesk) (starts : view_of before ≡ fresh) (stands : Stands n old.bench []) (tells : n.storage.tells) (outcome : SideStatus) where
   pub statements_fresh : (trace : List (SideStep OwnLine)) → DidStatements n old new before after outcome trace → DidFreshStatements n old new outcome trace

@@ -9,8 +9,7 @@ use Rattle.bench.specs.Benches.{Nodes, BenchOf}
 use Rattle.line_runs.specs.Trace.{Lines, Reads}
 use Rattle.line_runs.specs.Runs.{EndsIn, Replayed}
 use Rattle.line_runs.specs.declared.status.Status.TheVariants as status
-use Rattle.line_runs.specs.declared.status.SideStatus.{SideStatus}
-use Rattle.line_runs.specs.declared.status.SideStatus.TheVariants.{Run, Stopped}
+use Rattle.line_runs.specs.declared.{status.SideStatus.SideStatus, status.SideStatus.TheVariants.Run, status.SideStatus.TheVariants.Stopped}
 use Rattle.line_extensions.specs.Trace.{StepRecord}
 use Rattle.line_extensions.specs.Desks.{world, side_lines, Does}
 use Rattle.line_extensions.specs.SideTrace.{SideStep, steps_of}
@@ -21,8 +20,7 @@ use Rattle.script_replay.specs.Throughout.{StandsFor, Throughout}
 use Rattle.centre_statement.specs.Desk.{view_of, fresh}
 use Rattle.centre_statement.specs.Ran.{DidStatements}
 use Rattle.centre_statement.specs.StatementsDesk.{statements_desk}
-use Rattle.centre_statement.specs.declared.desk.StatementDesk.{StatementDesk}
-use Rattle.centre_statement.specs.declared.lines.OwnLine.{OwnLine}
+use Rattle.centre_statement.specs.declared.{desk.StatementDesk.StatementDesk, lines.OwnLine.OwnLine}
 use Rattle.centre_statement.proofs.Stating.{Laws, none_broken, all_stated, starts_with}
 use Rattle.line_extensions.proofs.Wanting.{no_words}
 

@@ -3,14 +3,9 @@ use Rattle.std.proofs.Common.{◌≡◌, ◌≢◌, ◌⊎◌, inl, inr, ℕ, Bo
 use Rattle.std.specs.List.{AllByRecursion}
 use Rattle.std.specs.Prelude.{codes}
 use Rattle.script_text.specs.Texts.{IsWholeReply}
-use Rattle.bench_base.specs.declared.events.Event.{Event}
+use Rattle.bench_base.specs.declared.{events.Event.Event, events.Reply.Reply, ledger.Entry.Entry, ledger.Entry.TheVariants.Begin, ledger.Commit.Commit, words.Node.Node}
 use Rattle.bench_base.specs.declared.events.Event.TheVariants as ev
-use Rattle.bench_base.specs.declared.events.Reply.{Reply}
 use Rattle.bench_base.specs.declared.events.Reply.TheVariants as r
-use Rattle.bench_base.specs.declared.ledger.Entry.{Entry}
-use Rattle.bench_base.specs.declared.ledger.Entry.TheVariants.{Begin}
-use Rattle.bench_base.specs.declared.ledger.Commit.{Commit}
-use Rattle.bench_base.specs.declared.words.Node.{Node}
 use Rattle.bench_base.specs.Ledger.{Ledger, counted, torn_of}
 use Rattle.bench_base.specs.Ranges.{IsCustomer}
 use Rattle.bench_base.specs.Rules.{todays_rules, editions}
@@ -23,8 +18,7 @@ use Rattle.line_extensions.specs.Trace.{StepRecord, Skipped, Did}
 use Rattle.line_extensions.specs.Desks.{World, world, Asks, Does, DidOwn, side_lines}
 use Rattle.line_extensions.specs.SideTrace.{SideStep, Plain, Own, Broken, IsBroken, steps_of}
 use Rattle.line_extensions.specs.Wants.{IsStep}
-use Rattle.line_extensions.specs.declared.extension.Next.{Next}
-use Rattle.line_extensions.specs.declared.extension.Next.TheVariants.{Step, Say, Stop}
+use Rattle.line_extensions.specs.declared.{extension.Next.Next, extension.Next.TheVariants.Step, extension.Next.TheVariants.Say, extension.Next.TheVariants.Stop}
 use Rattle.ledger_terms.specs.Editions.{Editions}
 use Rattle.ledger_laws.specs.Laws.{ForHistories}
 use Rattle.ledger_moves.specs.Histories.{History}
@@ -47,10 +41,7 @@ use Rattle.centre_statement.specs.Desk.{View, Opened, view_of, seen, fresh}
 use Rattle.centre_statement.specs.Movements.{OpenedAt, AsksBalance, IsRefused, TellsOpening, AllTold, TellsMovements, IsStated, AreStated, movements}
 use Rattle.centre_statement.specs.StatementsDesk.{statements_desk}
 use Rattle.centre_statement.specs.Texts.{said_texts, closed_texts}
-use Rattle.centre_statement.specs.declared.desk.StatementDesk.{StatementDesk}
-use Rattle.centre_statement.specs.declared.lines.OwnLine.{OwnLine}
-use Rattle.centre_statement.specs.declared.lines.OwnLine.TheVariants.{Open, Close}
-use Rattle.centre_statement.specs.declared.answer.Answer.{Answer}
+use Rattle.centre_statement.specs.declared.{desk.StatementDesk.StatementDesk, lines.OwnLine.OwnLine, lines.OwnLine.TheVariants.Open, lines.OwnLine.TheVariants.Close, answer.Answer.Answer}
 use Rattle.centre_statement.specs.declared.answer.Answer.TheVariants as answers
 use Rattle.centre_statement.proofs.Asking as asking
 use Rattle.centre_statement.proofs.Counting.{GoesWith, Lists, Listed, Kept, Sound}
@@ -61,7 +52,7 @@ use Rattle.line_extensions.proofs.Wanting.{step_event, ends_at}
 abbrev pub texts_in : View → List (List ℕ)
 texts_in v = said_texts v.said v.listed
 
--- == a balance is told ==
+-- == a balance is reported ==
 
 one_balance : (w a b : ℕ) → r.Balance w a ≡ r.Balance w b → a ≡ b
 one_balance w a b is = cc
@@ -114,7 +105,7 @@ closes o v t H s reply here with_it told did = by told did
     b : ℕ
     b = balance o.customer (counted H)
 
-    -- nothing is open behind it
+    -- nothing is open after it
     none_open : (full : Bool) (kept : List Movement) → GoesWith None (course.closed_with full kept closed b) H
     none_open true kept = (λ h. with_it.0 (inr refl), tt)
     none_open false kept = (λ h. with_it.0 (inr refl), tt)
@@ -163,7 +154,7 @@ no_stop : Stop ≡ Say → ⊥
 no_stop is = cc
 
 module _ (n : Nodes) where
-  -- what is wanted last, where it is no step
+  -- the last request, if it is no step
   ended : (old new : ItsWorld n) (next last : Next) (steps : List StepRecord) → next ≡ Say → Asks statements_desk (StepsBy n) old new next steps last → (steps ≡ []) × (last ≡ Say) × (new ≡ old)
   ended old new next last steps say asks = let end = ends_at statements_desk (StepsBy n) old new next steps last asks (inl say) in (end.0, end.1 ∙ say, end.2)
 
@@ -380,7 +371,7 @@ module _ (n : Nodes) (τ : Tariff) (laws : Laws) (read_as : IsOfTexts τ) (tells
       )
   all_stated o old new (Broken line own steps ∷ rest) H reads did s u with_it = absurd (goes_on n own old did.0 steps did.1)
 
--- a desk that has seen nothing goes with a ledger at which a run begins
+-- a desk that has seen nothing goes with a ledger at the begin of a run
 pub starts_with : (v : View) (L : Ledger) → v ≡ fresh → GoesWith None v (Begin ∷ L)
 starts_with v L is = subst (λ (x : View). GoesWith None x (Begin ∷ L)) (sym is) (
   λ h. elim h [

@@ -1,11 +1,7 @@
 -- What the desk sees of a turn goes with what the ledger is after it, whatever reply the event gets.
 use Rattle.std.proofs.Common.{◌≡◌, inl, inr, ℕ, ◌+◌, ◌<◌, ◌^◌, List, [], ◌∷◌, ◌++◌, Option, Some, None, refl, sym, ap, subst, ◌∙◌}
-use Rattle.bench_base.specs.declared.words.Node.{Node}
-use Rattle.bench_base.specs.declared.ledger.Commit.{Commit}
-use Rattle.bench_base.specs.declared.ledger.Entry.{Entry}
+use Rattle.bench_base.specs.declared.{words.Node.Node, ledger.Commit.Commit, ledger.Entry.Entry, events.Event.Event, events.Reply.Reply}
 use Rattle.bench_base.specs.declared.ledger.Entry.TheVariants as e
-use Rattle.bench_base.specs.declared.events.Event.{Event}
-use Rattle.bench_base.specs.declared.events.Reply.{Reply}
 use Rattle.bench_base.specs.Ledger.{Ledger, count_of, torn_of, counted}
 use Rattle.bench_base.specs.Nodes.{node_of}
 use Rattle.bench_base.specs.Plans.{Plan}
@@ -28,7 +24,7 @@ calm_counts (e.Commit c) H calm = absurd calm
 calm_counts (e.Up m k) H calm = absurd calm
 calm_counts _ H calm = refl
 
--- what is told calmly after a commit
+-- the calm entries after a commit
 calm_turn : (o : Option OpenedAt) (v : View) (H : Ledger) (told : List Entry) (commit : Option Commit) → AreCalm told → Sound (counted (told ++ with_commit commit H)) → GoesWith o v H
     → GoesWith o (seen v (in_order (told ++ with_commit commit []))) (told ++ with_commit commit H)
 calm_turn o v H [] None calm sound with_it = with_it

@@ -7,7 +7,7 @@ use Rattle.statement_check.specs.Places.{moved}
 use Rattle.centre_statement.specs.Changes.{change_in}
 use Rattle.centre_statement.specs.declared.change.Change.{Change}
 
--- a balance follows from the one before it by what was changed, as a statement is reckoned
+-- a balance follows from the one before it by what was changed, as a statement is computed
 abbrev pub Follows : Option Change → ℕ → ℕ → Type 0
 Follows None before after = after ≡ before
 Follows (Some x) before after = moved before x.cause x.amount ≡ pos after

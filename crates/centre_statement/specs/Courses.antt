@@ -1,16 +1,13 @@
--- What the desk does for an own line: before the balance is told, and after it.
+-- What the desk does for an own line: before the balance is reported, and after it.
 use Rattle.std.specs.Prelude.{◌≡◌, ◌≢◌, ◌⊎◌, ℕ, Bool, true, false, List, [], Option, Some, None}
 use Rattle.bench_base.specs.declared.events.Event.TheVariants as ev
 use Rattle.bench_base.specs.declared.events.Reply.{Reply}
 use Rattle.bench_base.specs.declared.events.Reply.TheVariants as r
 use Rattle.node_turns.specs.declared.turn.Turn.{Turn}
-use Rattle.line_extensions.specs.declared.extension.Next.{Next}
-use Rattle.line_extensions.specs.declared.extension.Next.TheVariants.{Step, Say}
+use Rattle.line_extensions.specs.declared.{extension.Next.Next, extension.Next.TheVariants.Step, extension.Next.TheVariants.Say}
 use Rattle.statement_check.specs.declared.line.Movement.{Movement}
 use Rattle.centre_statement.specs.Desk.{View, Opened, seen}
-use Rattle.centre_statement.specs.declared.lines.OwnLine.{OwnLine}
-use Rattle.centre_statement.specs.declared.lines.OwnLine.TheVariants.{Open, Close}
-use Rattle.centre_statement.specs.declared.answer.Answer.{Answer}
+use Rattle.centre_statement.specs.declared.{lines.OwnLine.OwnLine, lines.OwnLine.TheVariants.Open, lines.OwnLine.TheVariants.Close, answer.Answer.Answer}
 use Rattle.centre_statement.specs.declared.answer.Answer.TheVariants as answers
 
 -- a statement is opened in memory that is taken with the line
@@ -42,7 +39,7 @@ abbrev pub Begins : View → OwnLine → Next → View → Type 0
 Begins v (Open w) next t = (next ≡ Step (ev.Balance w)) × (t ≡ saying (answers.Opening w) v)
 Begins v Close next t = BeginsClose v.current v next t
 
--- after: another answer than the balance is told, and nothing is opened or closed
+-- after: the reply is not the balance and is reported, and nothing is opened or closed
 abbrev pub ByBalance : ℕ → Reply → (ℕ → View) → View → View → Type 0
 ByBalance w reply then v t = ((b : ℕ) × (reply ≡ r.Balance w b) × (t ≡ then b)) ⊎ (((b : ℕ) → reply ≢ r.Balance w b) × (t ≡ saying (answers.Balance reply) v))
 
@@ -77,7 +74,7 @@ Answers (answers.Balance told) reply v t = t ≡ v
 abbrev pub GoesOn : View → Turn → Next → View → Type 0
 GoesOn v turn next t = (next ≡ Say) × Answers v.said turn.reply (seen v turn.entries) t
 
--- the customer whose balance is awaited to open a statement, or that none is
+-- the customer with the awaited balance to open a statement, or that none is awaited
 abbrev pub IfOpening : Option ℕ → Answer → Type 0
 IfOpening (Some w) s = s ≡ answers.Opening w
 IfOpening None s = (w : ℕ) → s ≢ answers.Opening w

@@ -1,15 +1,11 @@
 -- What contracts see of the desk, and what an entry does to an open statement.
 use Rattle.std.specs.Prelude.{ℕ, Bool, true, List, [], ◌∷◌, ◌++◌, Option, Some, None, length, ◌==◌, if◌then◌else◌}
-use Rattle.bench_base.specs.declared.ledger.Commit.{Commit}
-use Rattle.bench_base.specs.declared.ledger.Entry.{Entry}
+use Rattle.bench_base.specs.declared.{ledger.Commit.Commit, ledger.Entry.Entry}
 use Rattle.statement_check.specs.declared.line.Movement.{Movement}
 use Rattle.centre_statement.specs.Changes.{change_in, left_after}
 use Rattle.centre_statement.specs.Watching.{counted_by, watched}
-use Rattle.centre_statement.specs.declared.change.Change.{Change}
-use Rattle.centre_statement.specs.declared.desk.StatementDesk.{StatementDesk}
-use Rattle.centre_statement.specs.declared.answer.Answer.{Answer}
+use Rattle.centre_statement.specs.declared.{change.Change.Change, desk.StatementDesk.StatementDesk, answer.Answer.Answer, watch.Watch.Watch}
 use Rattle.centre_statement.specs.declared.answer.Answer.TheVariants as answers
-use Rattle.centre_statement.specs.declared.watch.Watch.{Watch}
 
 -- a statement that is open: the customer, the balance after the movements so far, and whether there were more than it holds
 pub record Opened : Type 0 where
@@ -40,7 +36,12 @@ listed_in answers.Full movements = []
 listed_in (answers.Balance reply) movements = []
 
 abbrev pub view_of : StatementDesk → View
-view_of d = record { watch = d.watch; current = open_in d.current d.balance d.is_full d.movements.items; said = d.said; listed = listed_in d.said d.movements.items }
+view_of d = record {
+  watch = d.watch;
+  current = open_in d.current d.balance d.is_full d.movements.items;
+  said = d.said;
+  listed = listed_in d.said d.movements.items;
+}
 
 -- == what an entry does ==
 

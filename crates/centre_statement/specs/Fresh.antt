@@ -13,8 +13,7 @@ use Rattle.script_replay.specs.Run.{Unforged}
 use Rattle.centre_statement.specs.Desk as its
 use Rattle.centre_statement.specs.Movements.{AreStated}
 use Rattle.centre_statement.specs.Ran.{DidStatements}
-use Rattle.centre_statement.specs.declared.desk.StatementDesk.{StatementDesk}
-use Rattle.centre_statement.specs.declared.lines.OwnLine.{OwnLine}
+use Rattle.centre_statement.specs.declared.{desk.StatementDesk.StatementDesk, lines.OwnLine.OwnLine}
 
 -- A desk that had seen nothing, and a bench that represented the empty ledger, did the steps: all that is said of a run with statements by a history is so.
 pub record DidFreshStatements (n : Nodes) (old new : SceneOf n) (outcome : SideStatus) (trace : List (SideStep OwnLine)) : Type 0 where

@@ -1,9 +1,8 @@
 -- What a statement says, by the ledger: the movements that were counted between its opening and its close.
 use Rattle.std.specs.Prelude.{◌≡◌, ◌≢◌, ◌⊎◌, ◌<◌, ◌≤◌, ℕ, List, [], ◌∷◌, ◌++◌, Option, Some, None, length, codes}
 use Rattle.bench_base.specs.declared.events.Event.TheVariants as ev
-use Rattle.bench_base.specs.declared.events.Reply.{Reply}
+use Rattle.bench_base.specs.declared.{events.Reply.Reply, ledger.Commit.Commit}
 use Rattle.bench_base.specs.declared.events.Reply.TheVariants as r
-use Rattle.bench_base.specs.declared.ledger.Commit.{Commit}
 use Rattle.bench_base.specs.Ledger.{Ledger, counted}
 use Rattle.line_extensions.specs.Trace.{StepRecord, done_in}
 use Rattle.line_extensions.specs.SideTrace.{SideStep, Plain, Own, Broken}
@@ -12,13 +11,10 @@ use Rattle.ledger_terms.specs.Centres.{balance}
 use Rattle.script_replay.specs.Trace.{ledger_after}
 use Rattle.script_text.specs.Texts.{text_of}
 use Rattle.statement_check.specs.Lines.{line_text}
-use Rattle.statement_check.specs.declared.line.Movement.{Movement}
-use Rattle.statement_check.specs.declared.line.StatementLine.TheVariants.{Opening}
+use Rattle.statement_check.specs.declared.{line.Movement.Movement, line.StatementLine.TheVariants.Opening}
 use Rattle.centre_statement.specs.Changes.{change_in}
 use Rattle.centre_statement.specs.Texts.{closed_texts}
-use Rattle.centre_statement.specs.declared.change.Change.{Change}
-use Rattle.centre_statement.specs.declared.lines.OwnLine.{OwnLine}
-use Rattle.centre_statement.specs.declared.lines.OwnLine.TheVariants.{Open, Close}
+use Rattle.centre_statement.specs.declared.{change.Change.Change, lines.OwnLine.OwnLine, lines.OwnLine.TheVariants.Open, lines.OwnLine.TheVariants.Close}
 
 -- == movements ==
 
@@ -27,8 +23,8 @@ abbrev pub movement_of : Option Change → ℕ → List Movement
 movement_of None after = []
 movement_of (Some x) after = (record { cause = x.cause; amount = x.amount; balance = after }) ∷ []
 
--- the movements of the customer's money among the commits that were counted after those of C, each with the centre's balance after its commit. Of the
--- commits the newest comes first, of the movements the first.
+-- the movements of the customer's money among the commits that were counted after those of C, each with the centre's balance after its commit. The
+-- commits are listed newest first, the movements oldest first.
 abbrev pub movements : ℕ → List Commit → List Commit → List Movement
 movements w [] C = []
 movements w (c ∷ since) C = movements w since C ++ movement_of (change_in c w) (balance w (c ∷ (since ++ C)))
@@ -46,7 +42,7 @@ pub record AsksBalance (w : ℕ) (steps : List StepRecord) : Type 0 where
   pub only : steps ≡ step ∷ []
   pub event : step.event ≡ ev.Balance w
 
--- the reply tells no balance of the customer, and is the answer
+-- the reply has no balance of the customer, and is the answer
 pub record IsRefused (w : ℕ) (reply : Reply) (texts : List (List ℕ)) : Type 0 where
   pub other : (b : ℕ) → reply ≢ r.Balance w b
   pub texts_are : texts ≡ text_of reply ∷ []
@@ -79,7 +75,7 @@ IsStated Close None C steps texts now = (steps ≡ []) × (texts ≡ codes "refu
 IsStated Close (Some o) C steps texts now =
     (asks : AsksBalance o.customer steps) × (TellsMovements o C asks.step.reply texts now ⊎ (IsRefused o.customer asks.step.reply texts × (now ≡ Some o)))
 
--- so is each own line of a run from this ledger on, in turn; no line breaks off
+-- each own line of a run from this ledger on is stated, in turn; no line breaks off
 abbrev pub AreStated : Tariff → Option OpenedAt → Ledger → List (SideStep OwnLine) → Type 0
 AreStated τ o H [] = Unit {0}
 AreStated τ o H (Plain d ∷ rest) = AreStated τ o (ledger_after τ H (done_in (d ∷ []))) rest

@@ -17,11 +17,10 @@ use Rattle.script_replay.specs.Throughout.{StandsFor}
 use Rattle.centre_statement.specs.Desk.{view_of, fresh}
 use Rattle.centre_statement.specs.Movements.{AreStated}
 use Rattle.centre_statement.specs.StatementsDesk.{statements_desk}
-use Rattle.centre_statement.specs.declared.desk.StatementDesk.{StatementDesk}
-use Rattle.centre_statement.specs.declared.lines.OwnLine.{OwnLine}
+use Rattle.centre_statement.specs.declared.{desk.StatementDesk.StatementDesk, lines.OwnLine.OwnLine}
 
--- Desk and bench did the steps, from this desk on: what the desk does and answers for each line is told of by its own definitions. By a history for which
--- the bench stood, and where nothing was forged, each statement has the movements that were counted while it was open.
+-- Desk and bench did the steps, from this desk on: what the desk does and answers for each line is in its own definitions. If the bench represented
+-- a history, and nothing was forged, each statement has the movements that were counted while it was open.
 pub record DidStatements (n : Nodes) (old new : SceneOf n) (before now : StatementDesk) (outcome : SideStatus) (trace : List (SideStep OwnLine)) : Type 0 where
   pub side : DidSide n statements_desk (world old before) (world new now) outcome trace
   pub stated : (τ : Tariff) (L : Ledger) → IsOfTexts τ → StandsFor n τ old.bench L → n.storage.tells → AreUnforged τ Unforged (Begin ∷ L) (steps_of trace)

@@ -6,8 +6,7 @@ use Rattle.centre_statement.specs.Courses.{MayWant, Begins, GoesOn}
 use Rattle.centre_statement.specs.Desk.{view_of, seen}
 use Rattle.centre_statement.specs.OwnLines.{IsOwnLine}
 use Rattle.centre_statement.specs.Texts.{said_texts}
-use Rattle.centre_statement.specs.declared.desk.StatementDesk.{StatementDesk}
-use Rattle.centre_statement.specs.declared.lines.OwnLine.{OwnLine}
+use Rattle.centre_statement.specs.declared.{desk.StatementDesk.StatementDesk, lines.OwnLine.OwnLine}
 
 abbrev pub statements_desk : Ghosts StatementDesk Turn
 statements_desk = record {

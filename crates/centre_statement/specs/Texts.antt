@@ -2,8 +2,7 @@
 use Rattle.std.specs.Prelude.{ℕ, List, [], ◌∷◌, ◌++◌, map, codes}
 use Rattle.script_text.specs.Texts.{text_of}
 use Rattle.statement_check.specs.Lines.{line_text}
-use Rattle.statement_check.specs.declared.line.Movement.{Movement}
-use Rattle.statement_check.specs.declared.line.StatementLine.TheVariants.{Opening, Moved, Closing}
+use Rattle.statement_check.specs.declared.{line.Movement.Movement, line.StatementLine.TheVariants.Opening, line.StatementLine.TheVariants.Moved, line.StatementLine.TheVariants.Closing}
 use Rattle.centre_statement.specs.declared.answer.Answer.{Answer}
 use Rattle.centre_statement.specs.declared.answer.Answer.TheVariants as answers
 
@@ -11,7 +10,7 @@ use Rattle.centre_statement.specs.declared.answer.Answer.TheVariants as answers
 abbrev pub closed_texts : List Movement → ℕ → List (List ℕ)
 closed_texts movements b = map (λ m. line_text (Moved m)) movements ++ line_text (Closing b) ∷ []
 
--- the texts of an answer, with these movements: there is none while a balance is awaited
+-- the texts of an answer, with these movements: no text while a balance is awaited
 abbrev pub said_texts : Answer → List Movement → List (List ℕ)
 said_texts answers.Nothing movements = []
 said_texts (answers.Opening w) movements = []

@@ -1,9 +1,7 @@
 -- Which commits of the centre count, entry by entry.
 use Rattle.std.specs.Prelude.{ℕ, ◌+◌, ◌-◌, ◌^◌, min, Option, Some, None, ◌==◌, if◌then◌else◌}
 use Rattle.bench_base.specs.Nodes.{is_centre, node_of}
-use Rattle.bench_base.specs.declared.ledger.Commit.{Commit}
-use Rattle.bench_base.specs.declared.ledger.Entry.{Entry}
-use Rattle.bench_base.specs.declared.ledger.Entry.TheVariants.{Commit as Counts, Torn, Begin, Day, Rates, Sent, Released, Printed, Up, Down}
+use Rattle.bench_base.specs.declared.{ledger.Commit.Commit, ledger.Entry.Entry, ledger.Entry.TheVariants.Commit as Counts, ledger.Entry.TheVariants.Torn, ledger.Entry.TheVariants.Begin, ledger.Entry.TheVariants.Day, ledger.Entry.TheVariants.Rates, ledger.Entry.TheVariants.Sent, ledger.Entry.TheVariants.Released, ledger.Entry.TheVariants.Printed, ledger.Entry.TheVariants.Up, ledger.Entry.TheVariants.Down}
 use Rattle.centre_statement.specs.declared.watch.Watch.{Watch}
 
 -- one commit more, within 64 bits

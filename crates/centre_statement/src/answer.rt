@@ -18,7 +18,7 @@ pub enum Answer {
     Closing,
     /// The customer, and the balance at the opening.
     Opened(Customer, u64),
-    /// The balance at the close, behind the movements.
+    /// The balance at the close, after the movements.
     Closed(u64),
     NoneOpen,
     Full,
@@ -59,7 +59,7 @@ impl Answer {
     }
 }
 
-// Writes the line of this number of a statement that is closed: a movement's, or behind them the closing line.
+// Writes the line of this number of a statement that is closed: a movement's, or after them the closing line.
 fn put_closed(movements: &[Movement], balance: u64, number: u32, line: &mut Line)
     requires inside { number ≤ length movements.now }
     requires empty { line.old ≡ [] }

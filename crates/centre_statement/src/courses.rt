@@ -1,4 +1,4 @@
-//! What the desk does for an own line: before the balance is told, and after it.
+//! What the desk does for an own line: before the balance is reported, and after it.
 ghost use Rattle.std.specs.Prelude.{◌≡◌, ◌<◌, ◌≤◌, [], Some, None, IfOk, OnErr, length, slice_get};
 ghost use Rattle.line_extensions.specs.Wants.{MayAsk};
 ghost use Rattle.centre_statement.specs.Courses.{MayWant, IsPlain, Begins, Answers, ByBalance, Closes, IfOpening, IfClosing, saying, opened, closed_with};
@@ -17,7 +17,7 @@ use script_words::Line;
 use std::alloc::{AllocError, Global};
 
 impl StatementDesk {
-    // Takes the memory of a statement, where there is none. Nothing else is another.
+    // Takes the memory of a statement, if the desk has none yet. Everything except the answer stays as it was.
     fn take_room(&mut self, alloc: Global, customer: Customer) -> Result<(), AllocError>
         ensures ok { IfOk result (λ x. view_of self.new ≡ saying (Answer.Opening customer) (view_of self.old)) }
         ensures memory { OnErr result (self.new ≡ self.old) }
@@ -91,7 +91,7 @@ impl StatementDesk {
         };
     }
 
-    // The customer whose balance is awaited, to open a statement.
+    // The customer with the awaited balance, to open a statement.
     fn opening(&self) -> Option<Customer>
         ensures { IfOpening result self.now.said }
     {

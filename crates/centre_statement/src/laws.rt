@@ -5,11 +5,10 @@ ghost use Rattle.centre_statement.specs.Balances.{BalancesFollow, BalancesFit};
 
 use ledger_laws::laws::histories;
 
-/// Of every history, the balance of each customer after each counted commit:
+/// The balance of each customer after each counted commit of any history has two properties.
 ///
-/// - `follows`: it follows from the balance before it by what the commit changes: it is the same, or it is that of a movement of a
-///   statement;
-/// - `fits`: it is at most the limit of deposits.
+/// - `follows`: It follows from the balance before it by what the commit changes. It is the same, or it is that of a movement of a statement.
+/// - `fits`: It is at most the limit of deposits.
 pub fn balances()
     ensures follows { ForHistories (λ τ ρ ρs H. BalancesFollow (counted H)) }
     ensures fits { ForHistories (λ τ ρ ρs H. BalancesFit (counted H)) }

@@ -54,7 +54,7 @@ impl Word for CloseWord {
     }
 }
 
-// The customer of the words behind `statement`, where they open one.
+// The customer of the words after `statement`, if they open one.
 fn read_open(rest: &[u8]) -> Option<Customer>
     ensures found { IfSome result (λ w. IsCustomer w × (words_in rest.now ≡ codes "open" ∷ decimal w ∷ [])) }
     ensures none { IfNone result ((w : ℕ) → IsCustomer w → words_in rest.now ≢ codes "open" ∷ decimal w ∷ []) }
@@ -65,7 +65,7 @@ fn read_open(rest: &[u8]) -> Option<Customer>
     }
 }
 
-// Whether the words behind `statement` close one.
+// Whether the words after `statement` close one.
 fn is_close(rest: &[u8]) -> bool
     ensures { IsTrue result ↔ (words_in rest.now ≡ codes "close" ∷ []) }
 {
@@ -81,7 +81,7 @@ fn is_statement(word: &[u8]) -> bool
     word == b"statement".as_slice()
 }
 
-// The line of the desk, by the words behind its first, which is `statement`.
+// The line of the desk, by the words after its first, which is `statement`.
 fn read_behind(line: &[u8], rest: &[u8]) -> Option<OwnLine>
     requires { words_in line.now ≡ codes "statement" ∷ words_in rest.now }
     ensures found { IfSome result (λ own. IsOwnLine own line.now) }
@@ -99,7 +99,7 @@ fn read_behind(line: &[u8], rest: &[u8]) -> Option<OwnLine>
     }
 }
 
-/// The line of the desk that the bytes are; None if and only if they are none.
+/// The line of the desk that the bytes are; None if and only if they are no such line.
 pub fn read_own_line(line: &[u8]) -> Option<OwnLine>
     ensures found { IfSome result (λ own. IsOwnLine own line.now) }
     ensures none { IfNone result ((own : TheLine) → IsOwnLine own line.now → ⊥) }

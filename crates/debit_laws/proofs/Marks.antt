@@ -3,8 +3,7 @@ use Rattle.std.proofs.Common.{◌≡◌, ◌⊎◌, inl, inr, ℕ, ℤ, Bool, tr
 use Rattle.std.specs.Prelude.{◌↔◌, ◌==◌, ◌&&◌, option_map}
 use Rattle.std.proofs.lemmas.Bool.{eqb-true, eq-eqb, and_parts}
 use Rattle.std.proofs.lemmas.Option.{same_Some}
-use Rattle.bench_base.specs.declared.ledger.Commit.{Commit}
-use Rattle.bench_base.specs.declared.ledger.Commit.TheVariants.{Debited}
+use Rattle.bench_base.specs.declared.{ledger.Commit.Commit, ledger.Commit.TheVariants.Debited}
 use Rattle.bench_base.specs.declared.ledger.Entry.TheVariants as e
 use Rattle.bench_base.specs.Rows.{first_of}
 use Rattle.bench_base.specs.Rules.{Rules}

@@ -1,14 +1,9 @@
 -- No plan makes more than one commit count.
 use Rattle.std.proofs.Common.{◌≡◌, ◌⊎◌, inl, inr, ℕ, ℤ, pos, Bool, true, false, ◌+◌, List, [], ◌∷◌, ◌++◌, Option, Some, None, Result, Ok, Err, refl, length, drop}
 use Rattle.std.specs.Prelude.{nat_lt}
-use Rattle.bench_base.specs.declared.words.Node.{Node}
-use Rattle.bench_base.specs.declared.words.Node.TheVariants.{Device, Centre, Host, Verifier}
-use Rattle.bench_base.specs.declared.ledger.Commit.{Commit}
-use Rattle.bench_base.specs.declared.ledger.Entry.{Entry}
+use Rattle.bench_base.specs.declared.{words.Node.Node, words.Node.TheVariants.Device, words.Node.TheVariants.Centre, words.Node.TheVariants.Host, words.Node.TheVariants.Verifier, ledger.Commit.Commit, ledger.Entry.Entry, events.Event.Event, events.Reply.Reply}
 use Rattle.bench_base.specs.declared.ledger.Entry.TheVariants as e
-use Rattle.bench_base.specs.declared.events.Event.{Event}
 use Rattle.bench_base.specs.declared.events.Event.TheVariants as ev
-use Rattle.bench_base.specs.declared.events.Reply.{Reply}
 use Rattle.bench_base.specs.declared.events.Reply.TheVariants as r
 use Rattle.bench_base.specs.Rules.{Rules}
 use Rattle.bench_base.specs.Nodes.{node_of}
@@ -16,11 +11,7 @@ use Rattle.bench_base.specs.Plans.{Plan, refuse, made, told}
 use Rattle.bench_base.specs.Events.{needs_day}
 use Rattle.bench_base.specs.Cells.{is_worn}
 use Rattle.bench_base.specs.Ledger.{Ledger, day_in, rates_in, messages, message, is_on, count_of, torn_of, counted}
-use Rattle.node_acts.specs.declared.act.Act.{Act}
-use Rattle.node_acts.specs.declared.act.Act.TheVariants.{Refuse, Tell, Commits}
-use Rattle.node_acts.specs.declared.said.Said.{Said}
-use Rattle.node_acts.specs.declared.said.GivenOut.{GivenOut}
-use Rattle.node_acts.specs.declared.said.GivenOut.TheVariants.{Released, Printed}
+use Rattle.node_acts.specs.declared.{act.Act.Act, act.Act.TheVariants.Refuse, act.Act.TheVariants.Tell, act.Act.TheVariants.Commits, said.Said.Said, said.GivenOut.GivenOut, said.GivenOut.TheVariants.Released, said.GivenOut.TheVariants.Printed}
 use Rattle.node_acts.specs.Plans.{plan_of}
 use Rattle.node_acts.specs.Said.{with_given, with_sent, tells, said_plan}
 use Rattle.psd_wire.specs.Grammar.{read}
@@ -60,13 +51,13 @@ module _ (ρ : Rules) (H : Ledger) where
   still : (x : Reply) → IsTame H (refuse x)
   still x = inl refl
 
-  -- an act whose answers are told by such entries
+  -- an act that records its answers by such entries
   act_ok : {X F A : Type 0} (refusal : F → Reply) (reply : A → Reply) (tell : A → List Entry) (act : Act X F A) → ((a : A) → AllQuiet (tell a)) → IsTame H (plan_of refusal reply tell act)
   act_ok refusal reply tell (Refuse x) quiet = still (refusal x)
   act_ok refusal reply tell (Tell a) quiet = quiet_tame H (told (reply a) (tell a)) (quiet a)
   act_ok refusal reply tell (Commits c x a) quiet = quiet_tame H (made (reply a) c (tell a)) (quiet a)
 
-  -- an act whose answers are said
+  -- an act with answers of type `Said`
   said_ok : {X : Type 0} (act : Act X Reply Said) → IsTame H (said_plan act)
   said_ok act = act_ok (λ x. x) (λ a. a.reply) tells act tells_quiet
 
@@ -150,12 +141,9 @@ module _ (ρ : Rules) (H : Ledger) where
     on_ok n = chosen (IsTame H) (is_on n H) (refuse (r.OnAlready n)) (told (r.Up n (count_of n C)) (e.Up n (count_of n C) ∷ [])) (λ on. still (r.OnAlready n)) (λ off. up_more (torn_of n H) n (count_of n C) C)
 
     event_ok : (x : Event) (text : List ℕ) (today : ℤ) → IsTame H (moves.plan_on τ ρ H x text today)
-    event_ok (ev.Day t) text today = inl refl
-    event_ok ev.End text today = inl refl
     event_ok ev.Rates text today = rates_ok text
     event_ok (ev.On n) text today = on_ok n
     event_ok (ev.Off n) text today = at n (told (r.Down n) (e.Down n ∷ [])) (inl refl)
-    event_ok (ev.Cut n calls keep byte) text today = inl refl
     event_ok (ev.Make d key) text today = at (Device d) (device.make_plan d key C (key_of d C)) (act_ok (r.DevRefused d) (λ u. r.Made d) (λ u. []) (acts.make_act d key (held d)) (λ u. tt))
     event_ok (ev.Debit d piece postage class) text today =
         let q = moves.debit_by d piece postage class in
@@ -188,6 +176,7 @@ module _ (ρ : Rules) (H : Ledger) where
     event_ok (ev.Reconcile d) text today =
         let p = moves.reconcile_plan d (key_of d C) C in
         at (Device d) (at_node Centre H p) (at Centre p (reconcile_ok d (key_of d C)))
+    event_ok _ text today = inl refl
 
     dated_ok : (x : Event) (text : List ℕ) (day : Option ℤ) → IsTame H (moves.on_day (moves.plan_on τ ρ H x text) day)
     dated_ok x text None = inl refl

@@ -1,7 +1,6 @@
 //! The laws of debits, as the contract of a function that takes and answers nothing.
 ghost use Rattle.std.specs.Prelude.{◌≡◌, ℕ, List};
-ghost use Rattle.bench_base.specs.declared.events.Event.{Event};
-ghost use Rattle.bench_base.specs.declared.events.Reply.{Reply};
+ghost use Rattle.bench_base.specs.declared.{events.Event.Event, events.Reply.Reply};
 ghost use Rattle.bench_base.specs.Ledger.{Ledger, IsReleased, counted};
 ghost use Rattle.bench_base.specs.Rules.{Rules, todays_rules, editions};
 ghost use Rattle.ledger_moves.specs.Histories.{History, Unforged};
@@ -13,10 +12,10 @@ use ledger_laws::laws::histories;
 
 /// Debits and their marks:
 ///
-/// - `one`: whatever reply an event gets, at most one commit counts after it that did not count before, also at the `up` of a commit in doubt;
-/// - `more`: what was debited after an event is what was debited before it, and the marks that the devices keep of their last debits;
-/// - `kept`: the mark that a device keeps was debited;
-/// - `released`: so was each mark that was released.
+/// - `one`. Whatever reply an event gets, at most one commit counts after it that did not count before, also at the `up` of a commit in doubt.
+/// - `more`. What was debited after an event is what was debited before it, and the marks that the devices keep of their last debits.
+/// - `kept`. The mark that a device keeps was debited.
+/// - `released`. Each mark that was released was debited.
 pub fn debits()
     ensures one { (τ : Tariff) (ρ : Rules) (H : Ledger) (x : Event) (text : List ℕ) (reply : Reply)
         → IsOneMore (counted H) (counted (entries τ ρ H x text reply)) }

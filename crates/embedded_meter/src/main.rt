@@ -17,10 +17,10 @@ use psd_device::{Device, Taken};
 use psd_wire::DebitMsg;
 use std::alloc::{AllocError, Global};
 
-/// Device and centre have it, and no one else.
+/// Only the device and the centre have it.
 const KEY: Key = [1; 32];
 
-/// Where the device stands, as a postal code.
+/// The location of the device, as a postal code.
 const ORIGIN: u32 = 94_105;
 
 /// A storage of so many zero bytes. It keeps a record of its calls, with room for 100 of them and 10,000 written bytes; a

@@ -1,11 +1,7 @@
 -- What is still to come, after an event and at a new turn.
 use Rattle.std.proofs.Common.{◌≡◌, ℕ, zero, suc, ◌+◌, List, [], ◌∷◌, ◌++◌, drop, ap, ◌∙◌, sym, refl, arith, Some, slice_get, add-one}
 use Rattle.bench_base.specs.declared.events.Event.{Event}
-use Rattle.generator.specs.declared.turns.Counts.{Counts}
-use Rattle.generator.specs.declared.turns.Turn.{Turn}
-use Rattle.generator.specs.declared.parts.Part.{Part}
-use Rattle.generator.specs.declared.parts.Part.TheVariants.{Turning}
-use Rattle.generator.specs.declared.parts.Place.{Place}
+use Rattle.generator.specs.declared.{turns.Counts.Counts, turns.Turn.Turn, parts.Part.Part, parts.Part.TheVariants.Turning, parts.Place.Place}
 use Rattle.generator.specs.Draws.{number_after}
 use Rattle.generator.specs.Turns.{turn_from, draws_of, events_of, counted}
 use Rattle.generator.specs.Events.{turns}

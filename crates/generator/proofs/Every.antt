@@ -4,9 +4,7 @@ use Rattle.std.specs.List.{AllByRecursion}
 use Rattle.bench_base.specs.Ranges.{IsWord, IsKey}
 use Rattle.bench_base.specs.Events.{IsWholeEvent}
 use Rattle.bench_base.specs.declared.events.Event.{Event}
-use Rattle.generator.specs.declared.turns.Counts.{Counts}
-use Rattle.generator.specs.declared.turns.Turn.{Turn}
-use Rattle.generator.specs.declared.turns.Turn.TheVariants.{Scan, Cut, Reset}
+use Rattle.generator.specs.declared.{turns.Counts.Counts, turns.Turn.Turn, turns.Turn.TheVariants.Scan, turns.Turn.TheVariants.Cut, turns.Turn.TheVariants.Reset}
 use Rattle.generator.specs.Draws.{draw, number_after}
 use Rattle.generator.specs.Given.{GivesOnlyDebits, NeedsNoStream}
 use Rattle.generator.specs.Turns.{gives, turn_from, draws_of, events_of, counted, kind_from, postage_from, HasRoom}
@@ -34,7 +32,7 @@ is_turn x =
     if_turn (kind_from x == 2) (Cut (postage_from x) (draw 3 x % 6) (draw 4 x % 300) (draw 5 x % 256)) _ (omega arith, omega arith, omega arith, omega arith)
     (if_turn (kind_from x == 3) Reset (Scan (postage_from x)) tt (omega arith))
 
--- room for a turn and more is room for the more behind it
+-- room for a turn and more is room for the rest after it
 room_counted : (n : ℕ) (c : Counts) (t : Turn) → HasRoom (suc n) c → HasRoom n (counted c t)
 room_counted n c (Scan postage) h = record { pieces = omega (arith, h.pieces); messages = omega (arith, h.messages); scans = omega (arith, h.scans) }
 room_counted n c (Cut postage calls keep byte) h = record { pieces = omega (arith, h.pieces); messages = omega (arith, h.messages); scans = omega (arith, h.scans) }

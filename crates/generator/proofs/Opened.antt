@@ -3,7 +3,7 @@ use Rattle.std.proofs.Common.{◌≡◌, ℕ, zero, suc, ◌+◌, ◌-◌, ◌<�
 use Rattle.std.specs.List.{range_with_len}
 use Rattle.generator.specs.Opening.{first_debit, first_debits, introductions, first_transactions, opening}
 
--- the places of a list behind another
+-- the places of a list after another
 behind : {X : Type 0} (xs ys : List X) (i k : ℕ) → i ≡ length xs + k → slice_get (xs ++ ys) i ≡ slice_get ys k
 behind [] ys i k e = let same : i ≡ k = omega (arith, e) in ap (λ n. slice_get ys n) same
 behind (x ∷ xs) ys zero k e = absurd (omega (arith, e))
@@ -12,7 +12,7 @@ behind (x ∷ xs) ys (suc i) k e = behind xs ys i k (omega (arith, e))
 pub debits_behind : (place : ℕ) → 18 ≤ place → slice_get first_debits (place - 18) ≡ slice_get opening place
 debits_behind place h = sym (behind (introductions ++ first_transactions) first_debits place (place - 18) (omega (arith, h)))
 
--- what stands in each place of a list over a range
+-- what each place of a list over a range holds
 ranged : {X : Type 0} (f : ℕ → X) (a n k : ℕ) → k < n → slice_get (map f (range_with_len a n)) k ≡ Some (f (a + k))
 ranged f a zero k h = absurd (omega (arith, h))
 ranged f a (suc n) zero h = let same : a ≡ a + 0 = omega arith in ap (λ i. Some (f i)) same

@@ -1,4 +1,4 @@
--- The draws: a row of numbers, each of which follows from the one before it.
+-- The draws: a sequence of numbers, each computed from the one before it.
 use Rattle.std.specs.Prelude.{ℕ, ◌+◌, ◌*◌, ◌/◌, ◌%◌, ◌^◌}
 use Rattle.std.specs.Fn.{iterate}
 

@@ -10,7 +10,7 @@ use Rattle.generator.specs.Turns.{turn_from, draws_of, events_of, counted}
 abbrev pub opened : Counts
 opened = record { pieces = 10; messages = 6; scans = 0 }
 
--- the events of so many turns, of which the first is drawn from x
+-- the events of so many turns, the first drawn from x
 abbrev pub turns : ℕ → ℕ → Counts → List Event
 turns zero x c = []
 turns (suc n) x c =

@@ -1,9 +1,7 @@
--- What events bring from outside, and which streams they need.
+-- What events take as input from outside, and which streams they need.
 use Rattle.std.specs.Prelude.{◌≡◌, ◌≢◌, ℕ, Ok}
-use Rattle.bench_base.specs.declared.events.Event.{Event}
+use Rattle.bench_base.specs.declared.{events.Event.Event, questions.Brought.Brought, questions.Brought.TheVariants.Nothing, questions.Brought.TheVariants.Handed, questions.Brought.TheVariants.Scanned}
 use Rattle.bench_base.specs.declared.events.Event.TheVariants as ev
-use Rattle.bench_base.specs.declared.questions.Brought.{Brought}
-use Rattle.bench_base.specs.declared.questions.Brought.TheVariants.{Nothing, Handed, Scanned}
 use Rattle.bench_base.specs.Events.{brought_by}
 use Rattle.psd_wire.specs.declared.message.DebitMsg.{DebitMsg}
 use Rattle.psd_wire.specs.declared.message.Message.TheVariants as m

@@ -1,9 +1,7 @@
 -- The 28 events that each generated run begins with.
 use Rattle.std.specs.Prelude.{ℕ, pos, List, [], ◌∷◌, ◌++◌, map, replicate}
 use Rattle.std.specs.List.{range_with_len}
-use Rattle.bench_base.specs.declared.words.Kind.TheVariants.{Enrol, Audit, Reset}
-use Rattle.bench_base.specs.declared.words.Node.TheVariants.{Device, Centre, Verifier}
-use Rattle.bench_base.specs.declared.events.Event.{Event}
+use Rattle.bench_base.specs.declared.{words.Kind.TheVariants.Enrol, words.Kind.TheVariants.Audit, words.Kind.TheVariants.Reset, words.Node.TheVariants.Device, words.Node.TheVariants.Centre, words.Node.TheVariants.Verifier, events.Event.Event}
 use Rattle.bench_base.specs.declared.events.Event.TheVariants as ev
 
 -- the key of device 1

@@ -1,10 +1,7 @@
--- What is still to come where a run has come to a place in its opening or in a turn.
+-- What is still to come in a run from a place in its opening or in a turn.
 use Rattle.std.specs.Prelude.{suc, ◌≤◌, List, ◌++◌, drop, length}
 use Rattle.bench_base.specs.declared.events.Event.{Event}
-use Rattle.generator.specs.declared.turns.Counts.{Counts}
-use Rattle.generator.specs.declared.parts.Part.{Part}
-use Rattle.generator.specs.declared.parts.Part.TheVariants.{Opening, Turning}
-use Rattle.generator.specs.declared.parts.Place.{Place}
+use Rattle.generator.specs.declared.{turns.Counts.Counts, parts.Part.Part, parts.Part.TheVariants.Opening, parts.Part.TheVariants.Turning, parts.Place.Place}
 use Rattle.generator.specs.Opening.{opening}
 use Rattle.generator.specs.Turns.{events_of, counted, HasRoom}
 use Rattle.generator.specs.Events.{turns}

@@ -1,15 +1,12 @@
 -- The turns: what each draws, the events of it, and what it leaves. A row for each kind of turn.
 use Rattle.std.specs.Prelude.{ℕ, ◌+◌, ◌*◌, ◌<◌, ◌%◌, ◌^◌, List, [], ◌∷◌, ◌==◌, if◌then◌else◌}
 use Rattle.bench_base.specs.declared.words.Kind.TheVariants as kind
-use Rattle.bench_base.specs.declared.words.Node.TheVariants.{Device}
-use Rattle.bench_base.specs.declared.events.Event.{Event}
+use Rattle.bench_base.specs.declared.{words.Node.TheVariants.Device, events.Event.Event}
 use Rattle.bench_base.specs.declared.events.Event.TheVariants as ev
 use Rattle.psd_wire.specs.declared.message.DebitMsg.{DebitMsg}
 use Rattle.psd_wire.specs.declared.message.Message.TheVariants as m
 use Rattle.psd_wire.specs.Grammar.{body}
-use Rattle.generator.specs.declared.turns.Counts.{Counts}
-use Rattle.generator.specs.declared.turns.Turn.{Turn}
-use Rattle.generator.specs.declared.turns.Turn.TheVariants.{Scan, Cut, Reset}
+use Rattle.generator.specs.declared.{turns.Counts.Counts, turns.Turn.Turn, turns.Turn.TheVariants.Scan, turns.Turn.TheVariants.Cut, turns.Turn.TheVariants.Reset}
 use Rattle.generator.specs.Draws.{draw}
 
 -- the kind of the turn that is drawn from x

@@ -25,7 +25,7 @@ fn draw_postage(number: &mut u32) -> u32
     1 + draw(number) % 10
 }
 
-// What is left of a turn whose power fails.
+// The rest of a turn with a power failure.
 fn draw_cut(number: &mut u32) -> Turn
     ensures following { number.new ≡ number_after 4 number.old }
     ensures value { result ≡ turn.Cut (1 + drawn 1 number.old % 10) (drawn 2 number.old % 6) (drawn 3 number.old % 300) (drawn 4 number.old % 256) }

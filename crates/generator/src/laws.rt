@@ -21,7 +21,7 @@ pub fn no_streams()
     ensures law { (seed count : ℕ) → AllByRecursion NeedsNoStream (generated seed count) }
 {}
 
-/// A run has at most five events for each turn behind its 28 first ones.
+/// A run has at most 28 events, and five more for each turn.
 pub fn few_events()
     ensures law { (seed count : ℕ) → length (generated seed count) ≤ 28 + count * 5 }
 {}

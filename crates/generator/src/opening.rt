@@ -37,7 +37,7 @@ fn first_customer() -> Customer
     }
 }
 
-// The debit in this place behind all else, one mill in class 1; None behind that of piece 10.
+// The debit in this place after all other events, one mill in class 1; None after that of piece 10.
 fn debit_event(place: u32) -> Option<Event>
     ensures value { result ≡ slice_get first_debits place }
 {
@@ -52,7 +52,7 @@ fn debit_event(place: u32) -> Option<Event>
     })
 }
 
-/// The event in this place of the opening, counted from 0; None behind the last of its 28 events.
+/// The event in this place of the opening, counted from 0; None after the last of its 28 events.
 pub fn opening_event(place: u32) -> Option<Event>
     ensures value { result ≡ slice_get opening place }
 {

@@ -1,4 +1,4 @@
-//! Where a generator stands: in its opening, or in a turn.
+//! The place of a generator: in its opening, or in a turn.
 ghost use Rattle.std.specs.Prelude.{◌≡◌, ◌≢◌, ◌∷◌, [], slice_get, MatchOption, MatchBool};
 ghost use Rattle.generator.specs.Turns.{HasRoom};
 ghost use Rattle.generator.specs.Parts.{IsPlace, part_events, part_counted, left_of_part, to_come};
@@ -51,7 +51,7 @@ fn count_part(counts: &Counts, part: &Part) -> Counts
     }
 }
 
-/// The next event of the part; None where there is none left.
+/// The next event of the part; None if no event is left.
 pub fn take_event(place: &mut Place) -> Option<Event>
     requires place { IsPlace place.old }
     ensures place { IsPlace place.new }
@@ -62,7 +62,7 @@ pub fn take_event(place: &mut Place) -> Option<Event>
     Some(event)
 }
 
-/// Begins the next turn behind a part of which nothing is left. False where no turn is left.
+/// Begins the next turn after a part with nothing left. False if no turn is left.
 pub fn begin_turn(place: &mut Place) -> bool
     requires place { IsPlace place.old }
     requires done { left_of_part place.old ≡ [] }

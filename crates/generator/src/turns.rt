@@ -22,7 +22,7 @@ pub struct Counts {
 pub enum Turn {
     /// A debit of this postage, and a scan of its mark.
     Scan(u32),
-    /// A debit of this postage in which power fails: after so many calls of the storage, 0 to 5; so many bytes of the write
+    /// A debit of this postage with a power failure after so many calls of the storage, 0 to 5: so many bytes of the write
     /// are kept, 0 to 299, and the others hold this byte. Then the debit is given again.
     Cut(u32, u32, u32, u8),
     /// A reset: its request is delivered twice, and each of the two replies once.
@@ -107,7 +107,7 @@ fn reset_event(counts: &Counts, place: u32) -> Option<Event>
     }
 }
 
-/// The event in this place of the turn, counted from 0; None behind the last one. The counts are those before the turn.
+/// The event in this place of the turn, counted from 0; None after the last one. The counts are those before the turn.
 pub fn turn_event(counts: &Counts, turn: &Turn, place: u32) -> Option<Event>
     requires room { HasRoom 1 counts.now }
     ensures value { result ≡ slice_get (events_of counts.now turn.now) place }

@@ -16,9 +16,7 @@ use Rattle.node_turns.specs.declared.turn.Turn.{Turn}
 use Rattle.line_extensions.specs.Trace.{StepRecord, Skipped, Did}
 use Rattle.line_extensions.specs.Desks.{World, world, Asks, Does}
 use Rattle.line_extensions.specs.SideTrace.{SideStep, Plain, Own, Broken}
-use Rattle.line_extensions.specs.declared.extension.Extension.{Ghosts}
-use Rattle.line_extensions.specs.declared.extension.Next.{Next}
-use Rattle.line_extensions.specs.declared.extension.Next.TheVariants.{Step, Say, Stop}
+use Rattle.line_extensions.specs.declared.{extension.Extension.Ghosts, extension.Next.Next, extension.Next.TheVariants.Step, extension.Next.TheVariants.Say, extension.Next.TheVariants.Stop}
 use Rattle.line_extensions.specs.Stops.{HasBroken, IsUntouched}
 use Rattle.line_extensions.proofs.Lines.{BrokenLast}
 use Rattle.line_extensions.proofs.Stores.{Goes, Breaks, Ends, goes_rests, goes_same, goes_on, breaks_later, breaks_before, came_by}
@@ -33,13 +31,8 @@ use Rattle.host_departments.specs.Payload.{decoded, spelled}
 use Rattle.host_departments.specs.Rows.{Rows, quota, spent, first_cell}
 use Rattle.host_departments.specs.Texts.{said_texts, numbered, quota_text, assigned_text, again_text, spent_text}
 use Rattle.host_departments.specs.View.{said_of, has_failed, rows_of, store_of, view_of, Rests}
-use Rattle.host_departments.specs.declared.desk.Departments.{Departments}
-use Rattle.host_departments.specs.declared.row.TheConstants.{CELLS}
-use Rattle.host_departments.specs.declared.row.DepartmentLine.{DepartmentLine}
-use Rattle.host_departments.specs.declared.row.DepartmentLine.TheVariants.{Quota, Assign, Spent, Print}
-use Rattle.host_departments.specs.declared.row.DepartmentRow.{DepartmentRow}
+use Rattle.host_departments.specs.declared.{desk.Departments.Departments, row.TheConstants.CELLS, row.DepartmentLine.DepartmentLine, row.DepartmentLine.TheVariants.Quota, row.DepartmentLine.TheVariants.Assign, row.DepartmentLine.TheVariants.Spent, row.DepartmentLine.TheVariants.Print, row.DepartmentRow.DepartmentRow, answer.Answer.Answer}
 use Rattle.host_departments.specs.declared.row.DepartmentRow.TheVariants as row
-use Rattle.host_departments.specs.declared.answer.Answer.{Answer}
 use Rattle.host_departments.specs.declared.answer.Answer.TheVariants as answers
 use Rattle.line_extensions.proofs.Wanting.{no_step, no_say, step_event, ends_at}
 
@@ -116,7 +109,7 @@ module _ {N : Type 0} {g : nv.Ghosts N} (nested : (s : N) → g.tells → Nested
       rows_by : (rows : Rows) → rows_of m.desk ≡ rows → rows_of new.desk ≡ rows
       rows_by rows is = ap (λ (k : Departments N g). rows_of k) desk_is ∙ is
 
-    -- the answer that a desk shows, to what was asked
+    -- the answer that an extension shows, to what was asked
     abbrev answer_of : List Asked → Departments N g → Answered
     answer_of asked desk = record { asked = asked; texts = said_texts (said_of desk); after = rows_of desk }
 
@@ -384,7 +377,7 @@ module _ {N : Type 0} {g : nv.Ghosts N} (nested : (s : N) → g.tells → Nested
         (failed : Option CellCommit) × Ends g decoded 12 CELLS (view_of old.desk) (view_of new.desk) trace failed
         × AreAnswered Steps old.scene (rows_of old.desk) trace new.scene (rows_of new.desk) failed
 
-    -- with a line more, at which none failed
+    -- with a line more, and no failure at it
     with_line : (d : SideStep DepartmentLine) (old mid new : Departments N g) (rest : List (SideStep DepartmentLine)) (failed : Option CellCommit) → (HasBroken (d ∷ rest) → HasBroken rest) → (HasBroken rest → HasBroken (d ∷ rest))
         → Went old mid → Ends g decoded 12 CELLS (view_of mid) (view_of new) rest failed → Ends g decoded 12 CELLS (view_of old) (view_of new) (d ∷ rest) failed
     with_line d old mid new rest failed down up went (inl (more, whole, none)) = inl (went_on old mid new went more, λ broke. whole (down broke), none)

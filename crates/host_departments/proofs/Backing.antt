@@ -1,12 +1,9 @@
 -- Jobs stay backed by the ledger, through each line of a run.
 use Rattle.std.proofs.Common.{◌≡◌, inl, inr, ℕ, ◌+◌, ◌-◌, List, [], ◌∷◌, ◌++◌, Option, Some, None, Bool, true, false, refl, sym, ap, ap₂, ◌∙◌, subst}
-use Rattle.std.specs.Prelude.{codes, nat_lt}
-use Rattle.bench_base.specs.declared.events.Event.{Event}
+use Rattle.std.specs.Prelude.{codes, nat_lt, Result}
+use Rattle.bench_base.specs.declared.{events.Event.Event, events.Reply.Reply, ledger.Entry.Entry, ledger.Entry.TheVariants.Begin, refusals.Unread.Unread}
 use Rattle.bench_base.specs.declared.events.Event.TheVariants as ev
-use Rattle.bench_base.specs.declared.events.Reply.{Reply}
 use Rattle.bench_base.specs.declared.events.Reply.TheVariants as r
-use Rattle.bench_base.specs.declared.ledger.Entry.{Entry}
-use Rattle.bench_base.specs.declared.ledger.Entry.TheVariants.{Begin}
 use Rattle.bench_base.specs.Ledger.{Ledger, counted}
 use Rattle.bench_base.specs.Replies.{class_of}
 use Rattle.bench_base.specs.Rules.{todays_rules, editions}
@@ -15,8 +12,6 @@ use Rattle.node_acts.specs.RowList.{put}
 use Rattle.node_turns.specs.Turns.{in_order, sent_in}
 use Rattle.node_turns.specs.declared.turn.Turn.{Turn}
 use Rattle.psd_wire.specs.declared.message.Message.{Message}
-use Rattle.bench_base.specs.declared.refusals.Unread.{Unread}
-use Rattle.std.specs.Prelude.{Result}
 use Rattle.ledger_terms.specs.Editions.{Editions}
 use Rattle.ledger_moves.specs.Moves as moves
 use Rattle.ledger_moves.specs.Moves.{plan}
@@ -41,9 +36,7 @@ use Rattle.host_departments.specs.Heard.{IsTaken, debit_postage, postage_sent}
 use Rattle.host_departments.specs.Holds.{AreBacked}
 use Rattle.host_departments.specs.Rows.{Rows, quota, spent, first_cell}
 use Rattle.host_departments.specs.Texts.{numbered, quota_text, assigned_text, spent_text}
-use Rattle.host_departments.specs.declared.row.DepartmentLine.{DepartmentLine}
-use Rattle.host_departments.specs.declared.row.DepartmentLine.TheVariants.{Quota, Assign, Spent, Print}
-use Rattle.host_departments.specs.declared.row.DepartmentRow.{DepartmentRow}
+use Rattle.host_departments.specs.declared.{row.DepartmentLine.DepartmentLine, row.DepartmentLine.TheVariants.Quota, row.DepartmentLine.TheVariants.Assign, row.DepartmentLine.TheVariants.Spent, row.DepartmentLine.TheVariants.Print, row.DepartmentRow.DepartmentRow}
 use Rattle.host_departments.specs.declared.row.DepartmentRow.TheVariants as row
 use Rattle.host_departments.proofs.Puts.{put_row}
 
@@ -58,7 +51,7 @@ job_is j p i q is = cc
 postage_is : (j p i q : ℕ) → row.Job j p ≡ row.Job i q → p ≡ q
 postage_is j p i q is = cc
 
--- the row is no job, or one whose Ordered counts with its postage
+-- the row is no job, or its Ordered counts with its postage
 abbrev IsOrdered : DepartmentRow → Ledger → Type 0
 IsOrdered x H = (j p : ℕ) → x ≡ row.Job j p → ordered_postage j (counted H) ≡ Some p
 

@@ -7,7 +7,8 @@ use Rattle.nv_model.specs.Moments.{Image, Nested, Only}
 use Rattle.nv_model.specs.declared.nv.Nv as nv
 use Rattle.nv_store.specs.Mounts.{Mounts}
 use Rattle.row_node.specs.Shows.{ShowsRows}
-use Rattle.row_store.proofs.Blank.{zeros_show, none_seen, still_only}
+use Rattle.row_node.proofs.Blank.{zeros_show}
+use Rattle.row_store.proofs.Blank.{none_seen, still_only}
 use Rattle.row_store.specs.Seen.{ReadsAs}
 use Rattle.host_departments.specs.Holds.{AreBacked}
 use Rattle.host_departments.specs.Payload.{decoded}

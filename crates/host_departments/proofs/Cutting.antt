@@ -14,10 +14,7 @@ use Rattle.host_departments.specs.Answers.{Asked, CellCommit, IsFree, IsCutShort
 use Rattle.host_departments.specs.DepartmentLines.{IsLine}
 use Rattle.host_departments.specs.Rows.{Rows, quota, or_zero, spent, first_cell, department_of, Keeps, Has, IsSound}
 use Rattle.host_departments.specs.View.{rows_of}
-use Rattle.host_departments.specs.declared.desk.Departments.{Departments}
-use Rattle.host_departments.specs.declared.row.DepartmentLine.{DepartmentLine}
-use Rattle.host_departments.specs.declared.row.DepartmentLine.TheVariants.{Quota, Assign, Spent, Print}
-use Rattle.host_departments.specs.declared.row.DepartmentRow.{DepartmentRow}
+use Rattle.host_departments.specs.declared.{desk.Departments.Departments, row.DepartmentLine.DepartmentLine, row.DepartmentLine.TheVariants.Quota, row.DepartmentLine.TheVariants.Assign, row.DepartmentLine.TheVariants.Spent, row.DepartmentLine.TheVariants.Print, row.DepartmentRow.DepartmentRow}
 use Rattle.host_departments.proofs.Keeping.{rows_long, job_place}
 use Rattle.host_departments.proofs.Places.{owner}
 use Rattle.host_departments.proofs.Puts.{quota_sound, job_sound}
@@ -56,7 +53,7 @@ module _ (rows : Rows) (sound : IsSound rows) (long : length rows ≡ 1040) (pla
   cut_sound (Print j) asked c line cut = absurd cut
 
 module _ {B : Type 0} (Steps : B → B → StepRecord → Turn → Type 0) (after : Rows) (sound : IsSound after) (long : length after ≡ 1040) (places : (k j : ℕ) → Keeps after k j → (16 ≤ k) × (k < 1040)) where
-  -- the line at which a commit failed is the last, so what was kept then is what is kept now
+  -- the line where a commit failed is the last, so what was kept then is what is kept now
   pub failed_sound : (s : B) (rows : Rows) (trace : List (SideStep DepartmentLine)) (t : B) (failed : Option CellCommit) → BrokenLast trace → AreAnswered Steps s rows trace t after failed
       → IsSound (with_commit failed after)
   failed_sound s rows [] t failed last did = subst (λ (o : Option CellCommit). IsSound (with_commit o after)) (sym did.2) sound

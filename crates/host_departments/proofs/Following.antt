@@ -20,8 +20,7 @@ use Rattle.host_departments.specs.Follows.{TellsOrders, FollowLedger}
 use Rattle.host_departments.specs.Holds.{AreBacked, DepartmentsHold}
 use Rattle.host_departments.specs.Rows.{Rows, spent}
 use Rattle.host_departments.specs.Texts.{spent_text}
-use Rattle.host_departments.specs.declared.row.DepartmentLine.{DepartmentLine}
-use Rattle.host_departments.specs.declared.row.DepartmentLine.TheVariants.{Quota, Assign, Spent, Print}
+use Rattle.host_departments.specs.declared.{row.DepartmentLine.DepartmentLine, row.DepartmentLine.TheVariants.Quota, row.DepartmentLine.TheVariants.Assign, row.DepartmentLine.TheVariants.Spent, row.DepartmentLine.TheVariants.Print}
 use Rattle.host_departments.proofs.Backing.{begun, kept_by, did_events, still, answered}
 use Rattle.host_departments.proofs.Holding.{departments_hold}
 

@@ -9,8 +9,7 @@ use Rattle.ledger_moves.specs.Tariffs.{Tariff}
 use Rattle.send_laws.proofs.Sending.{order_of}
 use Rattle.host_departments.specs.Holds.{AreBacked, ordered_at, DepartmentsHold}
 use Rattle.host_departments.specs.Rows.{Rows, row_in, first_cell, or_zero, postage_in, postage_at}
-use Rattle.host_departments.specs.declared.row.DepartmentRow.{DepartmentRow}
-use Rattle.host_departments.specs.declared.row.DepartmentRow.TheVariants.{Quota, Job}
+use Rattle.host_departments.specs.declared.{row.DepartmentRow.DepartmentRow, row.DepartmentRow.TheVariants.Quota, row.DepartmentRow.TheVariants.Job}
 use Rattle.host_departments.proofs.Sums.{sum_same}
 
 module _ (today : Editions editions) (τ : Tariff) (H : Ledger) (history : History τ editions H) (rows : Rows) (b : AreBacked rows H) where

@@ -4,8 +4,7 @@ use Rattle.std.proofs.lemmas.Bool.{cases_eq}
 use Rattle.node_acts.specs.RowList.{put}
 use Rattle.host_departments.specs.Index.{place_of, at_place, IsFound, IsIndexed, Keep}
 use Rattle.host_departments.specs.Rows.{Rows, row_in, job_in}
-use Rattle.host_departments.specs.declared.row.DepartmentRow.{DepartmentRow}
-use Rattle.host_departments.specs.declared.row.DepartmentRow.TheVariants.{Quota, Job}
+use Rattle.host_departments.specs.declared.{row.DepartmentRow.DepartmentRow, row.DepartmentRow.TheVariants.Quota, row.DepartmentRow.TheVariants.Job}
 use Rattle.host_departments.proofs.Puts.{row_else, put_row}
 
 next_some : (n k : ℕ) → n ≡ k + 1 → n ≢ 0

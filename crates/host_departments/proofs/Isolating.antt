@@ -13,9 +13,7 @@ use Rattle.host_departments.specs.Heard.{IsTaken}
 use Rattle.host_departments.specs.Isolation.{IsLineOf, IsSameFor, IsSameHeard, AreSameHeard, AreIsolated}
 use Rattle.host_departments.specs.Rows.{Rows, row_in, quota, quota_in, spent, postage_at, postage_in, job_in, first_cell, Has, HasJobs}
 use Rattle.host_departments.specs.Texts.{numbered, quota_text, assigned_text, again_text, spent_text}
-use Rattle.host_departments.specs.declared.row.DepartmentLine.{DepartmentLine}
-use Rattle.host_departments.specs.declared.row.DepartmentLine.TheVariants.{Quota, Assign, Spent, Print}
-use Rattle.host_departments.specs.declared.row.DepartmentRow.{DepartmentRow}
+use Rattle.host_departments.specs.declared.{row.DepartmentLine.DepartmentLine, row.DepartmentLine.TheVariants.Quota, row.DepartmentLine.TheVariants.Assign, row.DepartmentLine.TheVariants.Spent, row.DepartmentLine.TheVariants.Print, row.DepartmentRow.DepartmentRow}
 use Rattle.host_departments.specs.declared.row.DepartmentRow.TheVariants as row
 use Rattle.host_departments.proofs.Places.{one_count}
 use Rattle.host_departments.proofs.Sums.{sum_same}

@@ -11,8 +11,7 @@ use Rattle.row_store.proofs.Kept.{row_read}
 use Rattle.host_departments.specs.Kept.{AllFilled, rows_in}
 use Rattle.host_departments.specs.Payload.{decoded, IsFit}
 use Rattle.host_departments.specs.Rows.{row_in, job_in, Keeps}
-use Rattle.host_departments.specs.declared.row.DepartmentRow.{DepartmentRow}
-use Rattle.host_departments.specs.declared.row.DepartmentRow.TheVariants.{Quota, Job}
+use Rattle.host_departments.specs.declared.{row.DepartmentRow.DepartmentRow, row.DepartmentRow.TheVariants.Quota, row.DepartmentRow.TheVariants.Job}
 use Rattle.host_departments.proofs.Payloads.{decoded_fits}
 
 module _ (room : Room 12) where
@@ -41,6 +40,6 @@ module _ (room : Room 12) where
     by_row k j (Some (Quota q)) is job = cc
     by_row k j (Some (Job i p)) is job = ((row_fits k (Job i p) is).0, row_inside k (Job i p) is)
 
-    -- a job stands behind the quotas
+    -- a job's cell is after the quotas
     pub job_place : (k j : ℕ) → Keeps (rows_in room) k j → (16 ≤ k) × (k < cells_of room)
     job_place k j keeps = by_row k j (row_in (rows_in room) k) refl keeps

@@ -1,7 +1,6 @@
 pub mod Payloads
 pub mod Keeping
 pub mod Meanwhile
-pub mod Nothing
 pub mod Sums
 pub mod Places
 pub mod Puts

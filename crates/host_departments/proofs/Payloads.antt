@@ -9,9 +9,7 @@ use Rattle.bench_base.specs.Table.{values, row, Fit}
 use Rattle.bench_base.proofs.Tables.{values_row}
 use Rattle.host_departments.specs.Payload.{cell_table, cell_bytes, quota_from, job_from, row_from, decoded, IsFit}
 use Rattle.host_departments.specs.Rows.{department_of}
-use Rattle.host_departments.specs.declared.row.DepartmentRow.{DepartmentRow}
-use Rattle.host_departments.specs.declared.row.DepartmentRow.TheVariants.{Quota, Job}
-use Rattle.host_departments.specs.declared.row.TheConstants.{MOST_POSTAGE}
+use Rattle.host_departments.specs.declared.{row.DepartmentRow.DepartmentRow, row.DepartmentRow.TheVariants.Quota, row.DepartmentRow.TheVariants.Job, row.TheConstants.MOST_POSTAGE}
 
 same : (n : ℕ) → (n == n) ≡ true
 same n = grind (arith, nat_tests)

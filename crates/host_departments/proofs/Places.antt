@@ -6,7 +6,7 @@ use Rattle.std.proofs.lemmas.Nat.{div-add-mod', div_below, mod_below}
 use Rattle.host_departments.specs.Rows.{Rows, row_in, first_cell, department_of, Keeps, Has, HasJobs, AreInOrder, IsDepartment, IsSound}
 use Rattle.host_departments.specs.declared.row.DepartmentRow.{DepartmentRow}
 
--- the parts of a cell behind the quotas
+-- the parts of a cell after the quotas
 place_of : (k q r d : ℕ) → q * 64 + r ≡ k - 16 → 16 ≤ k → d ≡ q + 1 → k ≡ first_cell d + r
 place_of k q r d parts behind is = omega (arith, parts, behind, is)
 

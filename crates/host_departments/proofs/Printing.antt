@@ -2,9 +2,8 @@
 use Rattle.std.proofs.Common.{◌≡◌, ◌≢◌, inl, inr, ℕ, ◌+◌, ◌-◌, List, [], ◌∷◌, ◌++◌, Option, Some, None, Bool, true, false, sym, ap, ◌∙◌, subst, arith}
 use Rattle.std.specs.Prelude.{codes, nat_lt, slice_get}
 use Rattle.std.proofs.lemmas.Bool.{cases_eq}
-use Rattle.bench_base.specs.declared.events.Event.{Event}
+use Rattle.bench_base.specs.declared.{events.Event.Event, events.Reply.Reply}
 use Rattle.bench_base.specs.declared.events.Event.TheVariants as ev
-use Rattle.bench_base.specs.declared.events.Reply.{Reply}
 use Rattle.bench_base.specs.declared.events.Reply.TheVariants as r
 use Rattle.bench_base.specs.Replies.{MayGet}
 use Rattle.nv_model.specs.declared.nv.Nv as nv
@@ -27,9 +26,7 @@ use Rattle.script_replay.specs.Chains.{SceneOf}
 use Rattle.script_replay.specs.Sides.{StepsBy}
 use Rattle.host_departments.specs.Rows.{Rows, row_in, job_in, first_cell, quota, spent, Keeps, IsAssigned, IsDepartment}
 use Rattle.host_departments.specs.Texts.{numbered, quota_text, assigned_text, again_text, spent_text}
-use Rattle.host_departments.specs.declared.row.DepartmentLine.{DepartmentLine}
-use Rattle.host_departments.specs.declared.row.DepartmentLine.TheVariants.{Quota, Assign, Spent, Print}
-use Rattle.host_departments.specs.declared.row.DepartmentRow.{DepartmentRow}
+use Rattle.host_departments.specs.declared.{row.DepartmentLine.DepartmentLine, row.DepartmentLine.TheVariants.Quota, row.DepartmentLine.TheVariants.Assign, row.DepartmentLine.TheVariants.Spent, row.DepartmentLine.TheVariants.Print, row.DepartmentRow.DepartmentRow}
 use Rattle.host_departments.specs.declared.row.DepartmentRow.TheVariants as row
 use Rattle.host_departments.proofs.Puts.{row_else}
 
@@ -48,7 +45,7 @@ print_given pool j (ev.Deliver k) is = deliver_no_print k j (slice_get pool k) i
 print_given pool j (ev.ScanMsg scan k) is = scan_no_print scan k j (slice_get pool k) is
 print_given pool j _ is = is
 
--- a step that tells of printing is one of `print`
+-- a step that reports printing is one of `print`
 pub prints_by : (n : Nodes) (s t : SceneOf n) (d : StepRecord) (turn : Turn) → StepsBy n s t d turn → (j : ℕ) → d.reply ≡ r.Printed j → d.event ≡ ev.Print j
 prints_by n s t d turn by j is =
     let did = by.0 in

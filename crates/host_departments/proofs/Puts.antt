@@ -7,8 +7,7 @@ use Rattle.std.proofs.lemmas.Option.{same_Some}
 use Rattle.node_acts.specs.RowList.{put, row_of, row_at, commits_at}
 use Rattle.node_acts.specs.RowLaws.{put_here, put_other}
 use Rattle.host_departments.specs.Rows.{Rows, row_in, quota, quota_in, or_zero, spent, postage_at, postage_in, job_in, first_cell, Keeps, HasJobs, AreInOrder, IsDepartment, IsSound}
-use Rattle.host_departments.specs.declared.row.DepartmentRow.{DepartmentRow}
-use Rattle.host_departments.specs.declared.row.DepartmentRow.TheVariants.{Quota, Job}
+use Rattle.host_departments.specs.declared.{row.DepartmentRow.DepartmentRow, row.DepartmentRow.TheVariants.Quota, row.DepartmentRow.TheVariants.Job}
 use Rattle.host_departments.proofs.Sums.{sum_same, sum_more}
 
 module _ (rows : Rows) (cell : ℕ) (x : DepartmentRow) where

@@ -10,8 +10,7 @@ use Rattle.host_departments.specs.DepartmentLines.{IsBehind, IsDepartmentLine}
 use Rattle.line_extensions.specs.Wants.{IsEvent}
 use Rattle.host_departments.specs.Passes.{Passes, IsPrintOf}
 use Rattle.host_departments.specs.Rows.{Rows, IsDepartment}
-use Rattle.host_departments.specs.declared.row.DepartmentLine.{DepartmentLine}
-use Rattle.host_departments.specs.declared.row.DepartmentLine.TheVariants.{Quota, Assign, Spent, Print}
+use Rattle.host_departments.specs.declared.{row.DepartmentLine.DepartmentLine, row.DepartmentLine.TheVariants.Quota, row.DepartmentLine.TheVariants.Assign, row.DepartmentLine.TheVariants.Spent, row.DepartmentLine.TheVariants.Print}
 
 -- a department's number is short
 pub few : (d : ℕ) → IsDepartment d → IsWord d
@@ -35,7 +34,7 @@ pub none_of : {A : Type 0} {P Q : Type 0} (o : Option A) → (P → Q) → IfNon
 none_of None f h = f h
 none_of (Some x) f h = h
 
--- a line of one word is none
+-- a line of one word is no line about departments
 pub none_alone : (line : List ℕ) → words_in line ≡ line ∷ [] → (own : DepartmentLine) → IsDepartmentLine own line → ⊥
 none_alone line is (Quota d q) here = let wrong : [] ≡ codes "quota" ∷ decimal d ∷ decimal q ∷ [] = tails line line (codes "dept") _ _ is here.2 in cc
 none_alone line is (Assign d j) here = let wrong : [] ≡ codes "assign" ∷ decimal d ∷ decimal j ∷ [] = tails line line (codes "dept") _ _ is here.2 in cc
@@ -43,21 +42,21 @@ none_alone line is (Spent d) here = let wrong : [] ≡ codes "spent" ∷ decimal
 none_alone line is (Print j) here = let wrong : [] ≡ decimal j ∷ [] = tails line line (codes "print") _ _ is (print_words j line here) in cc
 
 module _ (line word rest : List ℕ) (split : words_in line ≡ word ∷ words_in rest) where
-  -- behind `dept`
+  -- after `dept`
   pub dept_none : word ≡ codes "dept" → ((own : DepartmentLine) → IsBehind own (words_in rest) → ⊥) → (own : DepartmentLine) → IsDepartmentLine own line → ⊥
   dept_none is none (Quota d q) here = none (Quota d q) (here.0, here.1, tails line word (codes "dept") _ _ split here.2)
   dept_none is none (Assign d j) here = none (Assign d j) (here.0, here.1, tails line word (codes "dept") _ _ split here.2)
   dept_none is none (Spent d) here = none (Spent d) (here.0, tails line word (codes "dept") _ _ split here.1)
   dept_none is none (Print j) here = dept_differs (sym is ∙ two_words line word (codes "print") _ _ split (print_words j line here))
 
-  -- behind `print`
+  -- after `print`
   pub print_none : word ≡ codes "print" → ((j : ℕ) → IsLineOf (ev.Print j) line → ⊥) → (own : DepartmentLine) → IsDepartmentLine own line → ⊥
   print_none is none (Quota d q) here = dept_differs (two_words line (codes "dept") word _ _ here.2 split ∙ is)
   print_none is none (Assign d j) here = dept_differs (two_words line (codes "dept") word _ _ here.2 split ∙ is)
   print_none is none (Spent d) here = dept_differs (two_words line (codes "dept") word _ _ here.1 split ∙ is)
   print_none is none (Print j) here = none j here
 
-  -- behind another word
+  -- after another word
   pub others_none : (word ≡ codes "dept" → ⊥) → (word ≡ codes "print" → ⊥) → (own : DepartmentLine) → IsDepartmentLine own line → ⊥
   others_none no_dept no_print (Quota d q) here = no_dept (two_words line word (codes "dept") _ _ split here.2)
   others_none no_dept no_print (Assign d j) here = no_dept (two_words line word (codes "dept") _ _ split here.2)

@@ -1,5 +1,5 @@
 -- What a run with departments did, by what departments and bench did of its lines.
-use Rattle.std.proofs.Common.{◌≡◌, List, [], ◌∷◌, sym, ap, subst}
+use Rattle.std.proofs.Common.{◌≡◌, List, [], ◌∷◌, sym, ap, subst, false}
 use Rattle.std.specs.List.{AllByRecursion}
 use Rattle.bench_base.specs.declared.ledger.Entry.TheVariants.{Begin}
 use Rattle.bench_base.specs.Ledger.{Ledger}
@@ -8,11 +8,10 @@ use Rattle.nv_model.specs.declared.nv.Nv as nv
 use Rattle.nv_model.specs.Moments.{Nested}
 use Rattle.ledger_terms.specs.Editions.{Editions}
 use Rattle.ledger_moves.specs.Tariffs.{Tariff}
-use Rattle.bench.specs.Benches.{Nodes, BenchOf}
+use Rattle.bench.specs.Benches.{Nodes, BenchOf, Stands}
 use Rattle.line_runs.specs.Trace.{Reads}
 use Rattle.line_runs.specs.declared.status.Status.TheVariants as status
-use Rattle.line_runs.specs.declared.status.SideStatus.{SideStatus}
-use Rattle.line_runs.specs.declared.status.SideStatus.TheVariants.{Run}
+use Rattle.line_runs.specs.declared.{status.SideStatus.SideStatus, status.SideStatus.TheVariants.Run}
 use Rattle.line_extensions.specs.Trace.{StepRecord}
 use Rattle.line_extensions.specs.Desks.{World, world, side_lines}
 use Rattle.line_extensions.specs.SideTrace.{SideStep, steps_of}
@@ -27,10 +26,8 @@ use Rattle.host_departments.specs.DepartmentsExtension.{departments_desk}
 use Rattle.host_departments.specs.Payload.{decoded}
 use Rattle.host_departments.specs.Ran.{DidDepartments}
 use Rattle.host_departments.specs.Rows.{Rows}
-use Rattle.host_departments.specs.View.{rows_of, view_of}
-use Rattle.host_departments.specs.declared.desk.Departments.{Departments}
-use Rattle.host_departments.specs.declared.row.DepartmentLine.{DepartmentLine}
-use Rattle.host_departments.specs.declared.row.TheConstants.{CELLS}
+use Rattle.host_departments.specs.View.{rows_of, view_of, has_failed}
+use Rattle.host_departments.specs.declared.{desk.Departments.Departments, row.DepartmentLine.DepartmentLine, row.TheConstants.CELLS}
 use Rattle.host_departments.proofs.Answering.{all_answered}
 use Rattle.host_departments.proofs.Backing.{backed_after}
 use Rattle.host_departments.proofs.Cutting.{desk_sound}
@@ -41,6 +38,10 @@ use Rattle.host_departments.proofs.Places.{one_department}
 use Rattle.host_departments.proofs.Printing.{prints_by, all_printed}
 use Rattle.host_departments.proofs.Showing.{shows_now}
 use Rattle.line_extensions.proofs.Wanting.{desk_left}
+use Rattle.script_replay.proofs.Nothing.{stands_for_none, bench_fresh}
+use Rattle.host_departments.specs.Fresh.{DidFreshDepartments, KeepsNone}
+use Rattle.host_departments.specs.Holds.{AreBacked}
+use Rattle.host_departments.proofs.Blank.{none_backed}
 
 -- the first moment of a run
 first_between : (n : Nodes) (τ : Tariff) (L : Ledger) (old new : SceneOf n) (trace : List StepRecord) (did : DidEvents n old new trace) → Throughout n τ L old new trace did → IsBetween n τ old.bench L
@@ -79,4 +80,22 @@ module _ {N : Type 0} (n : Nodes) (own : nv.Ghosts N) (nested : (s : N) → own.
             let begins : StandsFor n τ did.begun (Begin ∷ L) = subst (λ (b : BenchOf n). StandsFor n τ b (Begin ∷ L)) did.same between.stands in
             let b = backed_after τ n texts tells today L from.scene (rows_of old.desk) trace did.behind.scene (rows_of new.desk) all.0 begins backed unforged answers in
             (departments_hold today τ _ history _ b.0, departments_hold today τ _ history _ b.1);
+      }
+
+-- == from nothing ==
+
+module _ (n : Nodes) {N : Type 0} (own : nv.Ghosts N) (old new : SceneOf n) (before after : Departments N own) (stands : Stands n old.bench []) (tells : n.storage.tells)
+    (none : KeepsNone before) (works : has_failed before ≡ false) (outcome : SideStatus) where
+  pub departments_fresh : (trace : List (SideStep DepartmentLine)) → DidDepartments n own (world old before) (world new after) outcome trace → DidFreshDepartments n own old new outcome trace
+  departments_fresh trace did =
+      let backed : AreBacked (rows_of before) [] = none_backed (rows_of before) [] none in
+      record {
+        before = before;
+        after = after;
+        none = none;
+        works = works;
+        did = did;
+        bench = bench_fresh n old new stands did.side.ended (steps_of trace) did.side.bench tells;
+        follows = λ τ texts. did.follows τ [] texts (stands_for_none n old new stands τ) tells backed;
+        holds = λ τ texts unforged. did.holds τ [] texts (stands_for_none n old new stands τ) tells backed unforged;
       }

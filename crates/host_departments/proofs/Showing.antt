@@ -1,4 +1,4 @@
--- Departments of which no commit failed are shown by their storage.
+-- Departments without a failed commit are shown by their storage.
 use Rattle.std.proofs.Common.{◌≡◌, ℕ, List, false, sym, subst}
 use Rattle.nv_model.specs.Moments.{Image}
 use Rattle.nv_model.specs.declared.nv.Nv as nv
@@ -10,8 +10,7 @@ use Rattle.row_store.specs.Seen.{ReadsAs, row_held}
 use Rattle.row_store.proofs.Kept.{filled_of}
 use Rattle.host_departments.specs.Payload.{decoded}
 use Rattle.host_departments.specs.View.{storage_of, has_failed, rows_of}
-use Rattle.host_departments.specs.declared.desk.Departments.{Departments}
-use Rattle.host_departments.specs.declared.row.TheConstants.{CELLS}
+use Rattle.host_departments.specs.declared.{desk.Departments.Departments, row.TheConstants.CELLS}
 
 module _ {N : Type 0} {g : nv.Ghosts N} where
   pub shows_now : (desk : Departments N g) → has_failed desk ≡ false → g.tells → (c : List ℕ) → Image (g.times (storage_of desk)) c → ShowsRows 12 CELLS (ReadsAs decoded) (rows_of desk) c

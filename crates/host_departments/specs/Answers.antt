@@ -15,9 +15,7 @@ use Rattle.host_departments.specs.Heard.{IsTaken}
 use Rattle.host_departments.specs.Passes.{Passes}
 use Rattle.host_departments.specs.Rows.{Rows, quota, spent, first_cell, Has, AnotherHas, IsAssigned, HasJobs}
 use Rattle.host_departments.specs.Texts.{numbered, quota_text, assigned_text, again_text, spent_text}
-use Rattle.host_departments.specs.declared.row.DepartmentLine.{DepartmentLine}
-use Rattle.host_departments.specs.declared.row.DepartmentLine.TheVariants.{Quota, Assign, Spent, Print}
-use Rattle.host_departments.specs.declared.row.DepartmentRow.{DepartmentRow}
+use Rattle.host_departments.specs.declared.{row.DepartmentLine.DepartmentLine, row.DepartmentLine.TheVariants.Quota, row.DepartmentLine.TheVariants.Assign, row.DepartmentLine.TheVariants.Spent, row.DepartmentLine.TheVariants.Print, row.DepartmentRow.DepartmentRow}
 use Rattle.host_departments.specs.declared.row.DepartmentRow.TheVariants as row
 
 -- an event that was asked for, and what it came to
@@ -52,7 +50,7 @@ IsQuotaTold d q rows a =
 
 -- == a job ==
 
--- the job lies behind those that the department has
+-- the job lies after those that the department has
 pub record IsTakenIn (d j p left : ℕ) (rows : Rows) (a : Answered) : Type 0 where
   pub place : ℕ
   pub jobs : HasJobs rows d place
@@ -75,7 +73,7 @@ pub record IsSent (d j q : ℕ) (rows : Rows) (a : Answered) : Type 0 where
 abbrev pub IsFree : Rows → ℕ → ℕ → Type 0
 IsFree rows d j = (Has rows d j → ⊥) × (AnotherHas rows d j → ⊥) × (HasJobs rows d 64 → ⊥)
 
--- where the department has a quota: it has the job; another has it; it has 64 jobs; or the message is asked for
+-- if the department has a quota: it has the job; another has the job; it has 64 jobs; or the message is asked for
 abbrev pub IsAssignTold : ℕ → ℕ → ℕ → Rows → Answered → Type 0
 IsAssignTold d j q rows a =
     (Has rows d j × IsTold (again_text j d) rows a)
@@ -95,13 +93,13 @@ IsAnswered (Assign d j) rows a = ByQuota (quota rows d) d rows (λ q x. IsAssign
 IsAnswered (Spent d) rows a = ByQuota (quota rows d) d rows (λ q x. IsTold (spent_text d (spent rows d) q) rows x) a
 IsAnswered (Print j) rows a = (IsAssigned rows j → ⊥) × IsTold (numbered (codes "refused dept unassigned") j) rows a
 
--- == a line at which a commit failed ==
+-- == a line where a commit failed ==
 
 -- a commit of a quota or a job to a cell
 abbrev pub CellCommit : Type 0
 CellCommit = RowCommit DepartmentRow
 
--- the commit of job j, whose message was sent, behind those that department d has
+-- the commit of job j after those that department d has; the message of job j was sent
 pub record IsCutJob (d j q : ℕ) (rows : Rows) (asked : List Asked) (c : CellCommit) : Type 0 where
   pub turn : Turn
   pub only : asked ≡ record { event = ev.Send j; turn = turn } ∷ []
@@ -123,7 +121,7 @@ IsCutShort (Print j) rows asked c = ⊥
 
 -- == a script ==
 
--- `Steps s t d turn` says that the bench, which was s and is t, did this by one step, whose turn this is.
+-- `Steps s t d turn` says that the bench, which was s and is t, did this by one step with this turn.
 module _ {B : Type 0} (Steps : B → B → StepRecord → Turn → Type 0) where
   -- what was asked for is what the bench did, one step after the other
   abbrev pub AreDone : B → List StepRecord → List Asked → B → Type 0
@@ -145,7 +143,7 @@ module _ {B : Type 0} (Steps : B → B → StepRecord → Turn → Type 0) where
     pub done : AreDone s steps asked t
     pub answered : IsAnswered own rows (record { asked = asked; texts = texts; after = after })
 
-  -- an own line at which this commit failed
+  -- an own line where this commit failed
   pub record IsOwnCut (own : DepartmentLine) (rows : Rows) (s : B) (steps : List StepRecord) (t : B) (c : CellCommit) : Type 0 where
     pub line : IsLine own
     pub asked : List Asked

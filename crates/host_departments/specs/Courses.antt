@@ -1,24 +1,18 @@
 -- What is done for an own line: before its message, and after it.
 use Rattle.std.specs.Prelude.{◌≡◌, ◌⊎◌, ◌<◌, ℕ, ◌+◌, ◌-◌, List, Bool, true, false, Option, Some, None, Result, Ok, Err, nat_lt}
 use Rattle.bench_base.specs.declared.events.Event.TheVariants as ev
-use Rattle.bench_base.specs.declared.events.Reply.{Reply}
-use Rattle.bench_base.specs.declared.refusals.StoreFail.{StoreFail}
+use Rattle.bench_base.specs.declared.{events.Reply.Reply, refusals.StoreFail.StoreFail}
 use Rattle.bench_base.specs.declared.refusals.StoreFail.TheVariants as fail
 use Rattle.nv_model.specs.declared.nv.Nv.{Ghosts}
 use Rattle.nv_store.specs.Fails.{ends_failed}
-use Rattle.line_extensions.specs.declared.extension.Next.{Next}
-use Rattle.line_extensions.specs.declared.extension.Next.TheVariants.{Step, Say, Stop}
+use Rattle.line_extensions.specs.declared.{extension.Next.Next, extension.Next.TheVariants.Step, extension.Next.TheVariants.Say, extension.Next.TheVariants.Stop}
 use Rattle.row_store.specs.Commits.{CommitsRow}
 use Rattle.host_departments.specs.Heard.{IsTaken}
 use Rattle.host_departments.specs.Payload.{decoded, spelled}
 use Rattle.host_departments.specs.Rows.{quota, spent, first_cell, Has, AnotherHas, IsAssigned, HasJobs}
 use Rattle.host_departments.specs.View.{said_of, has_failed, rows_of, store_of, Rests}
-use Rattle.host_departments.specs.declared.row.DepartmentLine.{DepartmentLine}
-use Rattle.host_departments.specs.declared.row.DepartmentLine.TheVariants.{Quota, Assign, Spent, Print}
-use Rattle.host_departments.specs.declared.row.DepartmentRow.{DepartmentRow}
+use Rattle.host_departments.specs.declared.{row.DepartmentLine.DepartmentLine, row.DepartmentLine.TheVariants.Quota, row.DepartmentLine.TheVariants.Assign, row.DepartmentLine.TheVariants.Spent, row.DepartmentLine.TheVariants.Print, row.DepartmentRow.DepartmentRow, desk.Departments.Departments, answer.Answer.Answer}
 use Rattle.host_departments.specs.declared.row.DepartmentRow.TheVariants as row
-use Rattle.host_departments.specs.declared.desk.Departments.{Departments}
-use Rattle.host_departments.specs.declared.answer.Answer.{Answer}
 use Rattle.host_departments.specs.declared.answer.Answer.TheVariants as answers
 
 -- the one or the other
@@ -70,7 +64,8 @@ module _ {N : Type 0} {g : Ghosts N} where
   abbrev pub Assigns : ℕ → ℕ → Departments N g → Next → Departments N g → Type 0
   Assigns d j old next new =
       (Has (rows_of old) d j × Says (answers.Again j d) old next new)
-      ⊎ ((Has (rows_of old) d j → ⊥) × ((AnotherHas (rows_of old) d j × Says (answers.Taken j) old next new) ⊎ ((AnotherHas (rows_of old) d j → ⊥) × Free d j old next new)))
+      ⊎ ((Has (rows_of old) d j → ⊥) × ((AnotherHas (rows_of old) d j × Says (answers.Taken j) old next new) ⊎
+      ((AnotherHas (rows_of old) d j → ⊥) × Free d j old next new)))
 
   abbrev pub AssignsBy : Option ℕ → ℕ → ℕ → Departments N g → Next → Departments N g → Type 0
   AssignsBy None d j old next new = Says (answers.Unknown d) old next new
@@ -84,14 +79,15 @@ module _ {N : Type 0} {g : Ghosts N} where
 
   abbrev pub Begins : Departments N g → DepartmentLine → Next → Departments N g → Type 0
   Begins old (Quota d q) next new =
-      Either (nat_lt q (spent (rows_of old) d)) (Says (answers.Below (spent (rows_of old) d)) old next new) (Tries (d - 1) (row.Quota q) (answers.Quota d q) old next new)
+      Either (nat_lt q (spent (rows_of old) d)) (Says (answers.Below (spent (rows_of old) d)) old next new)
+      (Tries (d - 1) (row.Quota q) (answers.Quota d q) old next new)
   Begins old (Assign d j) next new = AssignsBy (quota (rows_of old) d) d j old next new
   Begins old (Spent d) next new = SpentBy (quota (rows_of old) d) d old next new
   Begins old (Print j) next new = (IsAssigned (rows_of old) j → ⊥) × Says (answers.Unassigned j) old next new
 
   -- == after it ==
 
-  -- the job is committed behind those that the department has
+  -- the job is committed after those that the department has
   pub record Takes (d j p left : ℕ) (old : Departments N g) (next : Next) (new : Departments N g) : Type 0 where
     pub place : ℕ
     pub jobs : HasJobs (rows_of old) d place

@@ -5,8 +5,7 @@ use Rattle.bench_base.specs.declared.events.Event.TheVariants as ev
 use Rattle.script_words.specs.Words.{words_in}
 use Rattle.line_extensions.specs.Events.{IsLineOf}
 use Rattle.host_departments.specs.Rows.{IsDepartment}
-use Rattle.host_departments.specs.declared.row.DepartmentLine.{DepartmentLine}
-use Rattle.host_departments.specs.declared.row.DepartmentLine.TheVariants.{Quota, Assign, Spent, Print}
+use Rattle.host_departments.specs.declared.{row.DepartmentLine.DepartmentLine, row.DepartmentLine.TheVariants.Quota, row.DepartmentLine.TheVariants.Assign, row.DepartmentLine.TheVariants.Spent, row.DepartmentLine.TheVariants.Print}
 
 -- the line is one that may be written
 abbrev pub IsLine : DepartmentLine → Type 0
@@ -15,7 +14,7 @@ IsLine (Assign d j) = IsDepartment d × IsWord j
 IsLine (Spent d) = IsDepartment d
 IsLine (Print j) = IsWord j
 
--- the words behind `dept`; a `print` has none
+-- the words after `dept`; a `print` has none
 abbrev pub IsBehind : DepartmentLine → List (List ℕ) → Type 0
 IsBehind (Quota d q) ws = IsDepartment d × IsWord q × (ws ≡ codes "quota" ∷ decimal d ∷ decimal q ∷ [])
 IsBehind (Assign d j) ws = IsDepartment d × IsWord j × (ws ≡ codes "assign" ∷ decimal d ∷ decimal j ∷ [])

@@ -1,4 +1,4 @@
--- The departments, as a desk.
+-- The departments, as an extension.
 use Rattle.std.specs.Prelude.{◌≡◌}
 use Rattle.nv_model.specs.declared.nv.Nv as nv
 use Rattle.node_turns.specs.Turns.{sent_in}
@@ -8,9 +8,7 @@ use Rattle.host_departments.specs.DepartmentLines.{IsLine, IsDepartmentLine}
 use Rattle.host_departments.specs.Passes.{Passes}
 use Rattle.host_departments.specs.Texts.{said_texts}
 use Rattle.host_departments.specs.View.{said_of, rows_of}
-use Rattle.host_departments.specs.declared.desk.Departments.{Departments}
-use Rattle.host_departments.specs.declared.heard.Heard.{Heard}
-use Rattle.host_departments.specs.declared.row.DepartmentLine.{DepartmentLine}
+use Rattle.host_departments.specs.declared.{desk.Departments.Departments, heard.Heard.Heard, row.DepartmentLine.DepartmentLine}
 
 abbrev pub departments_desk : {N : Type 0} (g : nv.Ghosts N) → Ghosts (Departments N g) Heard
 departments_desk g = record {

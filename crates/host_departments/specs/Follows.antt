@@ -11,8 +11,7 @@ use Rattle.host_departments.specs.Answers.{CellCommit, AreAnswered}
 use Rattle.host_departments.specs.Holds.{ordered, DepartmentsHold}
 use Rattle.host_departments.specs.Rows.{Rows, quota}
 use Rattle.host_departments.specs.Texts.{spent_text}
-use Rattle.host_departments.specs.declared.row.DepartmentLine.{DepartmentLine}
-use Rattle.host_departments.specs.declared.row.DepartmentLine.TheVariants.{Quota, Assign, Spent, Print}
+use Rattle.host_departments.specs.declared.{row.DepartmentLine.DepartmentLine, row.DepartmentLine.TheVariants.Quota, row.DepartmentLine.TheVariants.Assign, row.DepartmentLine.TheVariants.Spent, row.DepartmentLine.TheVariants.Print}
 
 -- `dept spent` of a department with this quota is answered by the postage that was ordered for its jobs
 abbrev pub TellsOrders : DepartmentLine → Rows → Ledger → List (List ℕ) → Type 0
@@ -22,8 +21,8 @@ TellsOrders (Spent d) rows H texts = (q : ℕ) → quota rows d ≡ Some q → t
 TellsOrders (Print j) rows H texts = Unit {0}
 
 module _ {B : Type 0} (Steps : B → B → StepRecord → Turn → Type 0) (τ : Tariff) where
-  -- Up to the first forged event: before each line and after the last the departments that are kept then hold by the ledger so far, and `dept spent` is answered
-  -- by it.
+  -- Up to the first forged event: before each line and after the last the departments that are kept then hold by the ledger so far, and
+  -- `dept spent` is answered by it.
   abbrev pub FollowLedger : Ledger → (s : B) (rows : Rows) (trace : List (SideStep DepartmentLine)) (t : B) (after : Rows) (failed : Option CellCommit)
       → AreAnswered Steps s rows trace t after failed → Type 0
   FollowLedger H s rows [] t after failed answers = DepartmentsHold rows H

@@ -19,8 +19,7 @@ use Rattle.host_departments.specs.Holds.{DepartmentsHold}
 use Rattle.host_departments.specs.Ran.{DidDepartments}
 use Rattle.host_departments.specs.Rows.{row_in}
 use Rattle.host_departments.specs.View.{rows_of, has_failed}
-use Rattle.host_departments.specs.declared.desk.Departments.{Departments}
-use Rattle.host_departments.specs.declared.row.DepartmentLine.{DepartmentLine}
+use Rattle.host_departments.specs.declared.{desk.Departments.Departments, row.DepartmentLine.DepartmentLine}
 
 -- no quota and no job is kept
 abbrev pub KeepsNone : {N : Type 0} {own : nv.Ghosts N} → Departments N own → Type 0
@@ -28,7 +27,8 @@ KeepsNone desk = (k : ℕ) → row_in (rows_of desk) k ≡ None
 
 -- Departments without a quota and a job, and a bench that represented the empty ledger, did the steps: all that is said of a run with departments by a history
 -- is so.
-pub record DidFreshDepartments (n : Nodes) {N : Type 0} (own : nv.Ghosts N) (old new : SceneOf n) (outcome : SideStatus) (trace : List (SideStep DepartmentLine)) : Type 0 where
+pub record DidFreshDepartments (n : Nodes) {N : Type 0} (own : nv.Ghosts N) (old new : SceneOf n) (outcome : SideStatus)
+    (trace : List (SideStep DepartmentLine)) : Type 0 where
   pub before : Departments N own
   pub after : Departments N own
   pub none : KeepsNone before
@@ -36,7 +36,8 @@ pub record DidFreshDepartments (n : Nodes) {N : Type 0} (own : nv.Ghosts N) (old
   pub did : DidDepartments n own (world old before) (world new after) outcome trace
   pub bench : DidFresh n old new did.side.ended (steps_of trace)
   pub follows : (τ : Tariff) → IsOfTexts τ
-      → FollowLedger (StepsBy n) τ (Begin ∷ []) (scene did.side.begun old.outside) (rows_of before) trace did.side.behind.scene (rows_of after) did.failed did.answers
+      → FollowLedger (StepsBy n) τ (Begin ∷ []) (scene did.side.begun old.outside) (rows_of before) trace did.side.behind.scene
+      (rows_of after) did.failed did.answers
   pub holds : (τ : Tariff) → IsOfTexts τ → AreUnforged τ Unforged (Begin ∷ []) (steps_of trace)
       → DepartmentsHold (rows_of after) (ledger_after τ (Begin ∷ []) (steps_of trace))
       × DepartmentsHold (with_commit did.failed (rows_of after)) (ledger_after τ (Begin ∷ []) (steps_of trace))

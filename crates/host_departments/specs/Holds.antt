@@ -1,12 +1,10 @@
 -- What is promised of departments, by a ledger.
 use Rattle.std.specs.Prelude.{◌≡◌, ℕ, ◌+◌, List, Option, Some, None, Contains}
-use Rattle.bench_base.specs.declared.ledger.Commit.{Commit}
-use Rattle.bench_base.specs.declared.ledger.Commit.TheVariants.{Ordered}
+use Rattle.bench_base.specs.declared.{ledger.Commit.Commit, ledger.Commit.TheVariants.Ordered}
 use Rattle.bench_base.specs.Ledger.{Ledger, counted}
 use Rattle.send_laws.specs.Orders.{ordered_postage}
 use Rattle.host_departments.specs.Rows.{Rows, row_in, first_cell, IsDepartment, sum_to, or_zero, spent}
-use Rattle.host_departments.specs.declared.row.DepartmentRow.{DepartmentRow}
-use Rattle.host_departments.specs.declared.row.DepartmentRow.TheVariants.{Quota, Job}
+use Rattle.host_departments.specs.declared.{row.DepartmentRow.DepartmentRow, row.DepartmentRow.TheVariants.Quota, row.DepartmentRow.TheVariants.Job}
 
 -- THE PREMISE ON JOBS OF EARLIER RUNS, by what they left: each job that is kept has an Ordered with the same postage in the commits that count
 abbrev pub AreBacked : Rows → Ledger → Type 0
@@ -23,7 +21,7 @@ abbrev pub ordered : List Commit → Rows → ℕ → ℕ
 ordered C rows d = sum_to 64 (λ i. ordered_at C (row_in rows (first_cell d + i)))
 
 -- WHAT IS PROMISED: what a department has spent is the postage that was ordered for its jobs; a job has no Ordered with other postage; and each has one.
--- So it is after a next run too, whose premise this is.
+-- This is a premise of the next run, so it holds after that run too.
 pub record DepartmentsHold (rows : Rows) (H : Ledger) : Type 0 where
   pub spent : (d : ℕ) → IsDepartment d → spent rows d ≡ ordered (counted H) rows d
   pub only : (k j p : ℕ) → row_in rows k ≡ Some (Job j p) → (d piece a class : ℕ) → Contains (counted H) (Ordered j d piece a class) → a ≡ p

@@ -1,4 +1,4 @@
--- Where jobs are kept, by places for the cells of jobs.
+-- The index of jobs, by places for the cells of jobs.
 use Rattle.std.specs.Prelude.{◌≡◌, ◌≢◌, ◌<◌, ℕ, ◌+◌, ◌%◌, List, get_or}
 use Rattle.host_departments.specs.Rows.{Rows, Keeps}
 
@@ -6,7 +6,7 @@ use Rattle.host_departments.specs.Rows.{Rows, Keeps}
 abbrev pub place_of : ℕ → ℕ → ℕ
 place_of j d = (j % 2048 + d) % 2048
 
--- what stands there: 0, or one more than a cell
+-- what is there: 0, or one more than a cell
 abbrev pub at_place : List ℕ → ℕ → ℕ → ℕ
 at_place index j d = get_or index (place_of j d) 0
 
@@ -18,6 +18,6 @@ IsFound index j k = (d : ℕ) → d < 2048 → ((e : ℕ) → e < d → at_place
 abbrev pub IsIndexed : List ℕ → Rows → Type 0
 IsIndexed index rows = (k j : ℕ) → Keeps rows k j → IsFound index j k
 
--- what stands at a place stays there
+-- what is at a place stays there
 abbrev pub Keep : List ℕ → List ℕ → Type 0
 Keep old new = (i : ℕ) → get_or old i 0 ≢ 0 → get_or new i 0 ≡ get_or old i 0

@@ -8,8 +8,7 @@ use Rattle.script_text.specs.Texts.{text_of}
 use Rattle.host_departments.specs.Answers.{Asked, Answered, IsAnswered}
 use Rattle.host_departments.specs.Heard.{IsTaken}
 use Rattle.host_departments.specs.Rows.{Rows, first_cell, AnotherHas}
-use Rattle.host_departments.specs.declared.row.DepartmentLine.{DepartmentLine}
-use Rattle.host_departments.specs.declared.row.DepartmentLine.TheVariants.{Quota, Assign, Spent, Print}
+use Rattle.host_departments.specs.declared.{row.DepartmentLine.DepartmentLine, row.DepartmentLine.TheVariants.Quota, row.DepartmentLine.TheVariants.Assign, row.DepartmentLine.TheVariants.Spent, row.DepartmentLine.TheVariants.Print}
 
 -- the line is one of department d
 abbrev pub IsLineOf : ℕ → DepartmentLine → Type 0
@@ -31,9 +30,10 @@ pub record IsSameHeard (j : ℕ) (turn other : Turn) : Type 0 where
 
 -- so it is where both lines asked for it
 abbrev pub AreSameHeard : List Asked → List Asked → Type 0
-AreSameHeard asked other = (j : ℕ) (s t : Turn) → asked ≡ record { event = ev.Send j; turn = s } ∷ [] → other ≡ record { event = ev.Send j; turn = t } ∷ [] → IsSameHeard j s t
+AreSameHeard asked other = (j : ℕ) (s t : Turn) → asked ≡ record { event = ev.Send j; turn = s } ∷ []
+    → other ≡ record { event = ev.Send j; turn = t } ∷ [] → IsSameHeard j s t
 
--- Each line of a department is answered by the same texts, whatever else is kept of others.
+-- Each line of a department is answered by the same texts, whatever is kept of others.
 abbrev pub AreIsolated : Type 0
 AreIsolated =
     (d : ℕ) (own : DepartmentLine) → IsLineOf d own → (rows other : Rows) → IsSameFor d rows other

@@ -9,8 +9,7 @@ use Rattle.script_text.proofs.EachEvent.{one_event_of, no_event_skipped}
 use Rattle.line_extensions.specs.Events.{IsLineOf}
 use Rattle.line_extensions.specs.Wants.{IsAlone}
 use Rattle.host_departments.specs.DepartmentLines.{IsDepartmentLine}
-use Rattle.host_departments.specs.declared.row.DepartmentLine.{DepartmentLine}
-use Rattle.host_departments.specs.declared.row.DepartmentLine.TheVariants.{Quota, Assign, Spent, Print}
+use Rattle.host_departments.specs.declared.{row.DepartmentLine.DepartmentLine, row.DepartmentLine.TheVariants.Quota, row.DepartmentLine.TheVariants.Assign, row.DepartmentLine.TheVariants.Spent, row.DepartmentLine.TheVariants.Print}
 use Rattle.script_words.proofs.Splits.{begins_with}
 
 -- a line that is that of another event than `end`
@@ -24,10 +23,11 @@ event_alone e line is other = record {
 first_alone : (tail line : List ℕ) → line ≡ 100 ∷ tail → IsAlone line
 first_alone tail line is = record {
   not_skipped = λ skipped. let at : 100 ≡ 35 = subst (λ (l : List ℕ). IsSkipped l) is skipped in omega (arith, at);
-  not_end = λ end. let two : 100 ∷ tail ≡ codes "end" = sym is ∙ end.2 ∙ ap (λ (ws : List (List ℕ)). joined ws) end.1 in let first : 100 ≡ 101 = ap (λ (l : List ℕ). get_or l 0 0) two in omega (arith, first);
+  not_end = λ end. let two : 100 ∷ tail ≡ codes "end" = sym is ∙ end.2
+      ∙ ap (λ (ws : List (List ℕ)). joined ws) end.1 in let first : 100 ≡ 101 = ap (λ (l : List ℕ). get_or l 0 0) two in omega (arith, first);
 }
 
--- one whose first word is `dept`
+-- a line with `dept` as its first word
 dept_alone : (rest : List (List ℕ)) (line : List ℕ) → words_in line ≡ codes "dept" ∷ rest → IsAlone line
 dept_alone rest line is = let at = begins_with 100 (codes "ept") rest line is in first_alone at.0 line at.1
 

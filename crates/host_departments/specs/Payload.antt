@@ -3,9 +3,7 @@ use Rattle.std.specs.Prelude.{◌<◌, ◌≤◌, ℕ, ◌+◌, List, [], ◌∷
 use Rattle.bench_base.specs.Ranges.{IsPostage}
 use Rattle.bench_base.specs.Table.{Size, Four, row, values}
 use Rattle.host_departments.specs.Rows.{department_of}
-use Rattle.host_departments.specs.declared.row.DepartmentRow.{DepartmentRow}
-use Rattle.host_departments.specs.declared.row.DepartmentRow.TheVariants.{Quota, Job}
-use Rattle.host_departments.specs.declared.row.TheConstants.{MOST_POSTAGE}
+use Rattle.host_departments.specs.declared.{row.DepartmentRow.DepartmentRow, row.DepartmentRow.TheVariants.Quota, row.DepartmentRow.TheVariants.Job, row.TheConstants.MOST_POSTAGE}
 
 abbrev pub cell_table : List Size
 cell_table = Four ∷ Four ∷ Four ∷ []
@@ -26,7 +24,8 @@ quota_from k vs = if get_or vs 0 0 == k + 1 then (if get_or vs 2 0 == 0 then Som
 unfoldable pub job_from : ℕ → List ℕ → Option DepartmentRow
 job_from k vs =
     if get_or vs 1 0 == department_of k
-    then (if nat_le 1 (get_or vs 0 0) && (nat_le 1 (get_or vs 2 0) && nat_le (get_or vs 2 0) MOST_POSTAGE) then Some (Job (get_or vs 0 0) (get_or vs 2 0)) else None)
+    then (if nat_le 1 (get_or vs 0 0) && (nat_le 1 (get_or vs 2 0) && nat_le (get_or vs 2 0) MOST_POSTAGE)
+    then Some (Job (get_or vs 0 0) (get_or vs 2 0)) else None)
     else None
 
 abbrev pub row_from : ℕ → List ℕ → Option DepartmentRow

@@ -25,9 +25,7 @@ use Rattle.host_departments.specs.Holds.{AreBacked, DepartmentsHold}
 use Rattle.host_departments.specs.Payload.{decoded}
 use Rattle.host_departments.specs.Rows.{Rows, IsDepartment, Has, IsAssigned, quota, or_zero, spent, IsSound}
 use Rattle.host_departments.specs.View.{rows_of, view_of}
-use Rattle.host_departments.specs.declared.desk.Departments.{Departments}
-use Rattle.host_departments.specs.declared.row.DepartmentLine.{DepartmentLine}
-use Rattle.host_departments.specs.declared.row.TheConstants.{CELLS}
+use Rattle.host_departments.specs.declared.{desk.Departments.Departments, row.DepartmentLine.DepartmentLine, row.TheConstants.CELLS}
 
 -- each department has spent at most its quota: nothing, where it has none
 abbrev pub IsWithinQuotas : Rows → Type 0
@@ -37,7 +35,7 @@ IsWithinQuotas rows = (d : ℕ) → IsDepartment d → spent rows d ≤ or_zero 
 abbrev pub IsOfOne : Rows → Type 0
 IsOfOne rows = (d e j : ℕ) → IsDepartment d → IsDepartment e → Has rows d j → Has rows e j → d ≡ e
 
--- a job whose printing was told has a department
+-- a job that was reported as printed has a department
 abbrev pub PrintsAssigned : Rows → StepRecord → Type 0
 PrintsAssigned rows d = (j : ℕ) → d.reply ≡ r.Printed j → IsAssigned rows j
 
@@ -46,21 +44,24 @@ abbrev pub AllAssigned : Rows → List StepRecord → Type 0
 AllAssigned rows [] = Unit {0}
 AllAssigned rows (d ∷ steps) = PrintsAssigned rows d × AllAssigned rows steps
 
--- The departments and the bench did the steps; each line about departments has its answer, by what was kept then and by what was heard of its message at
--- that place of the run; a line is left to the bench only as a `print` of an assigned job or as one that is not about departments; and what is kept then is
--- within the quotas, with each job of one department at most, which each job has that was printed. One commit may have failed: then a later boot finds what
--- is kept without it or with it, which agrees either way. At every moment of the run each image shows what is kept then, or
--- that with the one commit in hand. By a history for which the bench stood, and where the jobs of earlier runs are backed by it, what is kept at each
--- line holds by the ledger so far, and `dept spent` is answered by it, up to the first forged event. Where nothing was forged, either holds by the ledger that
--- the steps leave.
-pub record DidDepartments (n : Nodes) {N : Type 0} (own : nv.Ghosts N) (old new : World (SceneOf n) (Departments N own)) (outcome : SideStatus) (trace : List (SideStep DepartmentLine)) : Type 0 where
+-- The departments and the bench did the steps. Each line about departments has its answer, by what was kept then and by what was heard of its
+-- message at that place of the run. A line is left to the bench only as a `print` of an assigned job or as one that is not about departments.
+-- What is kept at the end is within the quotas. Each job has one department at most, and each job that was printed has one.
+-- One commit may have failed: then a later boot finds what is kept without it or with it, which agrees either way. At every moment of the run
+-- each image shows what is kept then, or that with the one commit in hand.
+-- The rest is by a history that the bench represented, if the jobs of earlier runs are backed by it. Up to the first forged event, what is kept
+-- at each line holds by the ledger so far, and `dept spent` is answered by it. If nothing was forged, what is kept holds by the ledger that the
+-- steps leave, both without the failed commit and with it.
+pub record DidDepartments (n : Nodes) {N : Type 0} (own : nv.Ghosts N) (old new : World (SceneOf n) (Departments N own)) (outcome : SideStatus)
+    (trace : List (SideStep DepartmentLine)) : Type 0 where
   pub side : DidSide n (departments_desk own) old new outcome trace
   pub failed : Option CellCommit
   pub answers : AreAnswered (StepsBy n) (scene side.begun old.scene.outside) (rows_of old.desk) trace side.behind.scene (rows_of new.desk) failed
   pub follows : (τ : Tariff) (L : Ledger) → IsOfTexts τ → StandsFor n τ old.scene.bench L → n.storage.tells → AreBacked (rows_of old.desk) L
       → FollowLedger (StepsBy n) τ (Begin ∷ L) (scene side.begun old.scene.outside) (rows_of old.desk) trace side.behind.scene (rows_of new.desk) failed answers
   pub storage : LeavesStorage own decoded 12 CELLS (view_of old.desk) (view_of new.desk) outcome trace failed
-  pub throughout : EachMove (departments_desk own) (StepsBy n) (λ s t. ShownMeanwhile own decoded 12 CELLS (view_of s) (view_of t)) (world (scene side.begun old.scene.outside) old.desk)
+  pub throughout : EachMove (departments_desk own) (StepsBy n) (λ s t. ShownMeanwhile own decoded 12 CELLS (view_of s) (view_of t))
+      (world (scene side.begun old.scene.outside) old.desk)
       side.behind trace side.did
   pub within : IsWithinQuotas (rows_of new.desk)
   pub one : IsOfOne (rows_of new.desk)

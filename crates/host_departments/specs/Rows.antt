@@ -1,8 +1,7 @@
 -- The quotas and jobs that are kept, by their cells.
 use Rattle.std.specs.Prelude.{◌≡◌, ◌≢◌, ◌<◌, ◌≤◌, ℕ, zero, suc, ◌+◌, ◌-◌, ◌*◌, ◌/◌, Option, Some, None, IsSome}
 use Rattle.node_acts.specs.RowList.{RowList, row_at, row_of}
-use Rattle.host_departments.specs.declared.row.DepartmentRow.{DepartmentRow}
-use Rattle.host_departments.specs.declared.row.DepartmentRow.TheVariants.{Quota, Job}
+use Rattle.host_departments.specs.declared.{row.DepartmentRow.DepartmentRow, row.DepartmentRow.TheVariants.Quota, row.DepartmentRow.TheVariants.Job}
 
 abbrev pub Rows : Type 0
 Rows = RowList DepartmentRow
@@ -20,7 +19,7 @@ IsDepartment d = (1 ≤ d) × (d ≤ 16)
 abbrev pub first_cell : ℕ → ℕ
 first_cell d = 16 + 64 * (d - 1)
 
--- the department whose job cell k keeps
+-- the department of the job that cell k keeps
 abbrev pub department_of : ℕ → ℕ
 department_of k = (k - 16) / 64 + 1
 
@@ -61,14 +60,14 @@ pub record Has (rows : Rows) (d j : ℕ) : Type 0 where
   pub inside : place < 64
   pub kept : Keeps rows (first_cell d + place) j
 
--- another department has it
+-- another department has the job
 pub record AnotherHas (rows : Rows) (d j : ℕ) : Type 0 where
   pub other : ℕ
   pub department : IsDepartment other
   pub differs : other ≢ d
   pub has : Has rows other j
 
--- a department has it
+-- a department has the job
 pub record IsAssigned (rows : Rows) (j : ℕ) : Type 0 where
   pub department : ℕ
   pub is : IsDepartment department
@@ -104,7 +103,7 @@ AreInOrder rows d = (i : ℕ) → i + 1 < 64 → IsSome (row_in rows (first_cell
 abbrev pub IsSoundAt : Rows → ℕ → Type 0
 IsSoundAt rows d = AreInOrder rows d × (spent rows d ≤ or_zero (quota rows d))
 
--- Each department's jobs are filled in order, and their postage is within its quota; and a job stands in one cell.
+-- Each department's jobs are filled in order, and their postage is within its quota; and a job is in one cell.
 pub record IsSound (rows : Rows) : Type 0 where
   pub each : (d : ℕ) → IsDepartment d → IsSoundAt rows d
   pub once : (j k l : ℕ) → Keeps rows k j → Keeps rows l j → k ≡ l

@@ -5,7 +5,7 @@ use Rattle.script_text.specs.Texts.{text_of}
 use Rattle.host_departments.specs.declared.answer.Answer.{Answer}
 use Rattle.host_departments.specs.declared.answer.Answer.TheVariants as answers
 
--- words with a number behind them
+-- words with a number after them
 abbrev pub numbered : List ℕ → ℕ → List ℕ
 numbered words n = joined (words ∷ decimal n ∷ [])
 
@@ -21,7 +21,7 @@ again_text j d = joined (codes "assigned" ∷ decimal j ∷ decimal d ∷ codes 
 unfoldable pub spent_text : ℕ → ℕ → ℕ → List ℕ
 spent_text d s q = joined (codes "spent" ∷ decimal d ∷ decimal s ∷ codes "quota" ∷ decimal q ∷ [])
 
--- the text of an answer: there is none while a message is awaited
+-- the text of an answer; no text while a message is awaited
 abbrev pub said_texts : Answer → List (List ℕ)
 said_texts answers.Nothing = []
 said_texts (answers.Sending d j) = []

@@ -3,12 +3,11 @@ use Rattle.std.specs.Prelude.{◌≡◌, Bool}
 use Rattle.nv_model.specs.declared.nv.Nv.{Ghosts}
 use Rattle.nv_store.specs.RoomView.{cells_of, kept_in}
 use Rattle.nv_store.specs.declared.room.Room.{Room}
-use Rattle.row_store.specs.Commits.{RowView}
+use Rattle.row_store.specs.Commits.{RowView, rows_view}
 use Rattle.line_extensions.specs.Stops.{DeskView}
 use Rattle.host_departments.specs.Kept.{rows_in}
 use Rattle.host_departments.specs.Rows.{Rows}
-use Rattle.host_departments.specs.declared.desk.Departments.{Departments}
-use Rattle.host_departments.specs.declared.answer.Answer.{Answer}
+use Rattle.host_departments.specs.declared.{desk.Departments.Departments, answer.Answer.Answer}
 
 module _ {N : Type 0} {g : Ghosts N} where
   -- their storage
@@ -33,7 +32,7 @@ module _ {N : Type 0} {g : Ghosts N} where
 
   -- their cells and storage
   abbrev pub store_of : Departments N g → RowView
-  store_of desk = record { cells = cells_of desk.room; held = kept_in desk.room; content = g.content desk.nv; times = g.times desk.nv; meters = g.meters desk.nv }
+  store_of desk = rows_view g desk.nv desk.room
 
   -- whether a commit failed, the storage, and what is kept of each cell
   abbrev pub view_of : Departments N g → DeskView N

@@ -25,7 +25,7 @@ pub enum Answer {
     /// Another department has the job.
     Taken(u32),
     Full,
-    /// The message was refused, or there is none: so the bench replied.
+    /// The message was refused, or there is no message: this is what the bench replied.
     Sent(Reply),
     /// What is left of the quota is below the postage.
     OverQuota(u64),

@@ -25,9 +25,9 @@ impl<N: Nv> Departments<N> {
     /// The departments in their storage and in memory for 1,040 cells, or why they do not start, with both. Power is not lost. Nothing
     /// is written, and no memory is taken. Blank storage has no quota and no job.
     ///
-    /// `Damaged` comes if and only if the storage has not 35,360 bytes; where a cell has an open slot of count 0 or two open slots of
-    /// equal counts; where a payload is no quota or job of its cell; and where a job lies behind a blank cell of its department or
-    /// stands in two cells, or the jobs of a department are above its quota, or it has none.
+    /// `Damaged` is returned if and only if one of these is so. The storage has not 35,360 bytes. A cell has an open slot of count 0
+    /// or two open slots of equal counts. A payload is no quota or job of its cell. A job lies after a blank cell of its department
+    /// or is in two cells. The jobs of a department are above its quota, or it has jobs and no quota.
     pub fn boot(nv: N, room: Room<12>) -> Result<Departments<N>, (N, Room<12>, BootFail)>
         requires powered { (N.meters nv).lost ≡ false }
         requires cells { cells_of room ≡ CELLS }

@@ -185,7 +185,7 @@ impl<N: Nv> Departments<N> {
         }
     }
 
-    // Commits a job behind those that its department has, where the postage is within what is left.
+    // Commits a job after those that its department has, if the postage is within what is left.
     fn take(&mut self, department: u32, job: u32, postage: u32, left: u64) -> Next
         requires may { MayTake (rows_of self.old) department job }
         requires counted { 1 ≤ job }

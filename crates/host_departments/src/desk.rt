@@ -1,9 +1,8 @@
 //! The departments: they keep their quotas and jobs in a storage of their own.
 ghost use Rattle.std.specs.Prelude.{◌≡◌, false};
-ghost use Rattle.nv_store.specs.RoomView.{cells_of};
+ghost use Rattle.nv_store.specs.RoomView.{cells_of, kept_in};
 ghost use Rattle.nv_store.specs.Rooms.{RoomRuns};
 ghost use Rattle.row_store.specs.Seen.{read_prop};
-ghost use Rattle.nv_store.specs.RoomView.{kept_in};
 ghost use Rattle.host_departments.specs.Index.{IsIndexed};
 ghost use Rattle.host_departments.specs.Kept.{AllFilled, rows_in};
 ghost use Rattle.host_departments.specs.Payload.{decoded};

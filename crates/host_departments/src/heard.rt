@@ -65,7 +65,7 @@ fn postage_in(note: &Note) -> Option<u32>
     }
 }
 
-/// The postage of the message that was sent for a job; None where there is none.
+/// The postage of the message that was sent for a job; None if there is no such message.
 pub(crate) fn postage_taken(told: &Heard, job: u32) -> Option<u32>
     ensures found { IfSome result (λ p. IsTaken job told.now.reply told.now.sent p) }
     ensures none { IfNone result ((p : ℕ) → IsTaken job told.now.reply told.now.sent p → ⊥) }

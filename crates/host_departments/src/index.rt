@@ -1,4 +1,4 @@
-//! Where jobs are kept: places for cells by the numbers of their jobs, so that no line walks the cells. They are memory alone, made at a boot.
+//! The index of jobs: places for cells by the numbers of their jobs, so that no line walks the cells. They are memory alone, made at a boot.
 ghost use Rattle.std.specs.Prelude.{◌≡◌, ◌<◌, ◌≤◌, ℕ, IfSome, IfNone, IsTrue, ◌↔◌};
 ghost use Rattle.nv_store.specs.RoomView.{cells_of};
 ghost use Rattle.host_departments.specs.Index.{place_of, IsFound, IsIndexed, Keep};
@@ -13,7 +13,7 @@ use nv_store::Room;
 /// How many places there are: twice as many as jobs.
 const PLACES: u32 = 2048;
 
-// The place of a job that is so many behind the first of its number.
+// The place of a job that is so many after the first of its number.
 fn place_of(job: u32, step: u32) -> usize
     requires few { step < 2048 }
     ensures is { result ≡ place_of job step }

@@ -8,7 +8,7 @@ use crate::payload::read_row;
 use crate::row::{DEPARTMENTS, DepartmentRow, JOBS};
 use nv_store::{Room, get_room};
 
-/// What a cell keeps; nothing behind the last one.
+/// What a cell keeps; nothing after the last one.
 pub(crate) fn row_in(room: &Room<12>, cells: u32, cell: u32) -> Option<DepartmentRow>
     requires all { cells ≡ cells_of room.now }
     requires filled { AllFilled room.now }
@@ -175,7 +175,7 @@ pub(crate) fn cell_of(room: &Room<12>, cells: u32, job: u32) -> Option<u32>
     None
 }
 
-// Whether no cell behind this one keeps the job.
+// Whether no cell after this one keeps the job.
 fn is_lone(room: &Room<12>, cells: u32, cell: u32, job: u32) -> bool
     requires all { cells ≡ cells_of room.now }
     requires filled { AllFilled room.now }
@@ -190,7 +190,7 @@ fn is_lone(room: &Room<12>, cells: u32, cell: u32, job: u32) -> bool
     true
 }
 
-// Whether no cell behind this one keeps its job.
+// Whether no cell after this one keeps its job.
 fn keeps_alone(room: &Room<12>, cells: u32, cell: u32) -> bool
     requires all { cells ≡ cells_of room.now }
     requires filled { AllFilled room.now }
@@ -203,7 +203,7 @@ fn keeps_alone(room: &Room<12>, cells: u32, cell: u32) -> bool
     }
 }
 
-/// Whether each job stands in one cell.
+/// Whether each job is in one cell.
 pub(crate) fn are_lone(room: &Room<12>, cells: u32) -> bool
     requires all { cells ≡ cells_of room.now }
     requires filled { AllFilled room.now }

@@ -10,13 +10,13 @@ ghost use Rattle.host_departments.specs.Payload.{decoded};
 ghost use Rattle.host_departments.specs.Rows.{Rows, row_in};
 ghost use Rattle.host_departments.specs.declared.row.TheConstants.{CELLS};
 
-/// A department does not see the others' quotas and postage: where the same was committed of it, the same jobs are others' and the messages were
-/// answered by the same texts with the same postage, each line of it has the same answer.
+/// A department does not see the others' quotas and postage. Each line of it has the same answer if the same was committed of it, the
+/// same jobs are others', and the messages were answered by the same texts with the same postage.
 pub fn isolated()
     ensures law { AreIsolated }
 {}
 
-/// What a run with departments wants of earlier runs is so before the first one: where no quota and no job is kept, jobs are backed by any ledger.
+/// What a run with departments needs of earlier runs holds before the first one: if no quota and no job is kept, jobs are backed by any ledger.
 pub fn first_jobs_are_backed()
     ensures first { (rows : Rows) (H : Ledger) → ((k : ℕ) → row_in rows k ≡ None) → AreBacked rows H }
 {}
@@ -28,7 +28,7 @@ pub fn one_list_is_shown()
         → a ≡ b }
 {}
 
-/// Blank storage shows the empty list. Zeros, however many, show cells of which none has a quota or a job (`shows`); and no list of 1,040
+/// Blank storage shows the empty list. Zeros, however many, show cells without quotas and jobs (`shows`); and no list of 1,040
 /// cells that they show has one (`none`).
 pub fn blank_shows_no_rows()
     ensures shows { (rows : Rows) (bytes : ℕ) → ((k : ℕ) → row_at rows k ≡ None)

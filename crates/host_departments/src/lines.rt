@@ -48,7 +48,7 @@ fn read_one(rest: &[u8]) -> Option<u32>
     None
 }
 
-// The line of the words behind `dept`, of which this is the first.
+// The line of the words after `dept`; this is the first of them.
 fn read_rest(prefix: &[u8], word: &[u8], rest: &[u8]) -> Option<DepartmentLine>
     requires split { words_in prefix.now ≡ word.now ∷ words_in rest.now }
     ensures found { IfSome result (λ own. IsBehind own (words_in prefix.now)) }
@@ -75,7 +75,7 @@ fn read_rest(prefix: &[u8], word: &[u8], rest: &[u8]) -> Option<DepartmentLine>
     None
 }
 
-// The line of the words behind `dept`.
+// The line of the words after `dept`.
 fn read_dept(prefix: &[u8]) -> Option<DepartmentLine>
     ensures found { IfSome result (λ own. IsBehind own (words_in prefix.now)) }
     ensures none { IfNone result ((own : TheLine) → IsBehind own (words_in prefix.now) → ⊥) }

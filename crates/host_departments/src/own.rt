@@ -1,4 +1,4 @@
-//! The departments as a desk.
+//! The departments as an extension.
 ghost use Rattle.std.specs.Prelude.{◌≡◌, ◌↔◌, IsTrue};
 ghost use Rattle.node_turns.specs.Turns.{sent_in};
 ghost use Rattle.host_departments.specs.Courses as course;

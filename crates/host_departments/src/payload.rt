@@ -12,7 +12,7 @@ use bench_base::fields::{put_u32, u32_at};
 use nv_store::Room;
 use row_store::Rows;
 
-/// The department whose job a cell behind the quotas keeps.
+/// The department of the job that a cell after the quotas keeps.
 pub(crate) fn department_of(cell: u32) -> u32
     requires behind { 16 ≤ cell }
     ensures { result ≡ department_of cell }

@@ -6,7 +6,7 @@ pub const DEPARTMENTS: u32 = 16;
 /// The most jobs of a department.
 pub const JOBS: u32 = 64;
 
-/// The cells: one a department for its quota, and behind them those of the jobs of each.
+/// The cells: one a department for its quota, and after them those of the jobs of each.
 pub const CELLS: u32 = 1040;
 
 /// The size of their storage, in bytes: each cell has two slots of 17.

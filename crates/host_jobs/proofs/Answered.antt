@@ -2,9 +2,8 @@
 use Rattle.std.proofs.Common.{◌≡◌, ℕ, ◌+◌, ◌<◌, ◌≤◌, Bool, false, Option, Some, None, Ok, refl, sym, ap, subst, ◌∙◌, true≢false, rules}
 use Rattle.std.specs.Prelude.{◌==◌, ◌&&◌, nat_le}
 use Rattle.std.proofs.lemmas.Bool.{eqb-true, leb-false, le-leb, not-false}
-use Rattle.bench_base.specs.declared.words.JobState.{JobState}
+use Rattle.bench_base.specs.declared.{words.JobState.JobState, refusals.HostRefusal.HostRefusal}
 use Rattle.bench_base.specs.declared.words.JobState.TheVariants as state
-use Rattle.bench_base.specs.declared.refusals.HostRefusal.{HostRefusal}
 use Rattle.bench_base.specs.Rows.{first_holding}
 use Rattle.bench_base.proofs.Facts.{some_none, ok_same}
 use Rattle.bench_base.proofs.Rows.{AllFalse, first, passes}

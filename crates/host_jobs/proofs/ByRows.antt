@@ -1,17 +1,15 @@
--- What sound rows tell is what their commits tell.
+-- What sound rows record is what their commits record.
 use Rattle.std.proofs.Common.{◌≡◌, ◌≢◌, ℕ, ◌+◌, ◌-◌, ◌%◌, ◌<◌, ◌≤◌, Bool, true, false, List, length, get_or, Option, Some, None, ⊎_elim, refl, sym, ap, subst, ◌∙◌, true≢false, arith}
 use Rattle.std.specs.Prelude.{◌&&◌, nat_le, nat_lt, if◌then◌else◌}
 use Rattle.std.proofs.lemmas.Bool.{cases_Bool, cases_eq, and_parts, le-leb, lt-ltb, leb-true, ltb-true}
 use Rattle.std.proofs.lemmas.Option.{same_Some, none-some}
-use Rattle.bench_base.specs.declared.words.JobState.{JobState}
+use Rattle.bench_base.specs.declared.{words.JobState.JobState, ledger.Commit.Commit}
 use Rattle.bench_base.specs.declared.words.JobState.TheVariants as state
-use Rattle.bench_base.specs.declared.ledger.Commit.{Commit}
 use Rattle.bench_base.specs.Jobs.{Job, cell_of, last_job, job_of, state_of, open_job, top, in_cells}
 use Rattle.bench_base.specs.Ranges.{IsDevice}
 use Rattle.bench_base.proofs.Facts.{some_by}
 use Rattle.node_acts.specs.RowLaws.{listed_at, listed_same}
-use Rattle.host_jobs.specs.declared.rows.JobRow.{JobRow}
-use Rattle.host_jobs.specs.declared.sizes.TheConstants.{HOST_CELLS}
+use Rattle.host_jobs.specs.declared.{rows.JobRow.JobRow, sizes.TheConstants.HOST_CELLS}
 use Rattle.host_jobs.specs.Plans.{shown_job}
 use Rattle.host_jobs.specs.Rows.{Jobs, job_in, state_in, number_in, top_at, is_ordered, waiting, row_in, job_row, last_in, top_in, open_in, oldest_in, tops_in}
 use Rattle.host_jobs.specs.Records.{tops_after, record_by, record_of, cell_row}
@@ -29,7 +27,7 @@ ordered_state state.Held h = absurd (true≢false (sym h))
 ordered_state state.Begun h = absurd (true≢false (sym h))
 ordered_state state.Closed h = absurd (true≢false (sym h))
 
--- what the row in the cell of a job tells of it
+-- what the row in the cell of a job says of that job
 abbrev pub Tells : ℕ → List Commit → Option JobRow → Type 0
 Tells j C None = in_cells j C ≡ false
 Tells j C (Some r) = (in_cells j C ≡ true) × IsRowOf r j C

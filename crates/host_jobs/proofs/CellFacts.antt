@@ -1,12 +1,10 @@
--- What the rows after commits in the host's turn are: the cells hold the last 1,024 jobs, each as the commits tell of it, with
--- the tops as they were, of which the greatest are the present ones.
+-- The rows after commits in the host's turn: the cells hold the last 1,024 jobs, each as the commits record it, with the tops
+-- as they were. The greatest of these are the present tops.
 use Rattle.std.proofs.Common.{◌≡◌, ◌≢◌, ℕ, ◌+◌, ◌-◌, ◌<◌, ◌≤◌, true, false, List, [], ◌∷◌, get_or, Option, Some, ◌⊎◌, inl, inr, ⊎_elim, refl, sym, ap, subst, ◌∙◌, arith}
 use Rattle.std.proofs.lemmas.Bool.{cases_eq, cases_lt, eq-eqb, ne_eqb}
 use Rattle.std.proofs.lemmas.Option.{same_Some, none-some}
-use Rattle.bench_base.specs.declared.words.JobState.{JobState}
+use Rattle.bench_base.specs.declared.{words.JobState.JobState, ledger.Commit.Commit, ledger.Commit.TheVariants.Ordered, ledger.Commit.TheVariants.Held, ledger.Commit.TheVariants.Began, ledger.Commit.TheVariants.Closed}
 use Rattle.bench_base.specs.declared.words.JobState.TheVariants as state
-use Rattle.bench_base.specs.declared.ledger.Commit.{Commit}
-use Rattle.bench_base.specs.declared.ledger.Commit.TheVariants.{Ordered, Held, Began, Closed}
 use Rattle.bench_base.specs.Cells.{Place, OfJob, same_place, place_of}
 use Rattle.bench_base.specs.Jobs.{Job, cell_of, last_job, job_of, state_of, held_of, top}
 use Rattle.bench_base.specs.Ranges.{IsDevice}
@@ -19,7 +17,7 @@ use Rattle.host_jobs.specs.Records.{tops_after, record_by, record_of, job_no, ce
 use Rattle.host_jobs.proofs.Cells.{cell_lt, cell_one}
 use Rattle.host_jobs.proofs.JobFacts.{Facts, IsJob, facts, open_state}
 
--- the row is what the commits tell of the job
+-- the row is what the commits record of the job
 pub record IsRowOf (r : JobRow) (j : ℕ) (C : List Commit) : Type 0 where
   pub number : r.job ≡ j
   pub job : job_of j C ≡ Some (job_in r)

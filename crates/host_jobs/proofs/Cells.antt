@@ -1,4 +1,4 @@
--- The cells in which jobs lie.
+-- The cells that hold jobs.
 use Rattle.std.proofs.Common.{◌≡◌, ℕ, ◌+◌, ◌-◌, ◌%◌, ◌<◌, ◌≤◌, arith}
 use Rattle.std.proofs.Math.Nat.{mod-lt}
 use Rattle.bench_base.specs.Jobs.{cell_of}

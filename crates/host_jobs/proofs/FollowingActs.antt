@@ -4,13 +4,8 @@ use Rattle.std.specs.Prelude.{max, if◌then◌else◌}
 use Rattle.std.proofs.lemmas.Bool.{cases_eq, eq-eqb, ne_eqb}
 use Rattle.std.proofs.lemmas.List.{get_or-set_same, get_or-set_other}
 use Rattle.std.proofs.lemmas.Option.{same_Some, none-some}
-use Rattle.bench_base.specs.declared.words.JobState.{JobState}
+use Rattle.bench_base.specs.declared.{words.JobState.JobState, refusals.Unread.Unread, refusals.MarkFault.MarkFault, refusals.RateRefusal.RateRefusal, refusals.HostRefusal.HostRefusal, ledger.Commit.Commit}
 use Rattle.bench_base.specs.declared.words.JobState.TheVariants as state
-use Rattle.bench_base.specs.declared.refusals.Unread.{Unread}
-use Rattle.bench_base.specs.declared.refusals.MarkFault.{MarkFault}
-use Rattle.bench_base.specs.declared.refusals.RateRefusal.{RateRefusal}
-use Rattle.bench_base.specs.declared.refusals.HostRefusal.{HostRefusal}
-use Rattle.bench_base.specs.declared.ledger.Commit.{Commit}
 use Rattle.bench_base.specs.declared.ledger.Commit.TheVariants as c
 use Rattle.bench_base.specs.Rows.{first_of, first_holding}
 use Rattle.bench_base.specs.Ranges.{IsDevice}
@@ -24,8 +19,7 @@ use Rattle.indicium.specs.Marks.{read_mark}
 use Rattle.psd_wire.specs.declared.message.Message.{Message}
 use Rattle.psd_wire.specs.declared.message.Message.TheVariants as m
 use Rattle.psd_wire.specs.Grammar.{read}
-use Rattle.host_jobs.specs.declared.rows.JobRow.{JobRow}
-use Rattle.host_jobs.specs.declared.sizes.TheConstants.{HOST_CELLS}
+use Rattle.host_jobs.specs.declared.{rows.JobRow.JobRow, sizes.TheConstants.HOST_CELLS}
 use Rattle.host_jobs.specs.Answers.{is_open, order_rows, order_answer, print_answer, close_answer, hold_answer}
 use Rattle.host_jobs.specs.Rows.{Jobs, job_in, row_in, put_row, job_row, last_in, top_in, open_in, oldest_in, tops_in, no_jobs}
 use Rattle.host_jobs.specs.Soundness.{AreSound}
@@ -46,7 +40,7 @@ first_none None p h = refl
 first_none (Some a) p h = absurd (none-some _ (sym h))
 
 module _ (rows : Jobs) (C : List Commit) (sound : AreSound rows) (are : AreRowsOf rows C) where
-  -- a row that is put, where it is the one that the commits tell of its job
+  -- a row that is put, if it is the one that the commits record of its job
   put_after : (d : Commit) (x : JobRow) → place_of d ≡ OfJob (cell_of x.job) → record_of (job_no d) (d ∷ C) ≡ Some x → put_row rows x ≡ rows_after (d ∷ C)
   put_after d x place is =
       sym (listed_is HOST_CELLS (λ k. cell_row k (d ∷ C)) None (put_row rows x) (length-set rows (cell_of x.job) (Some x) ∙ sound.placed.long) (λ k lt. ⊎_elim
@@ -128,7 +122,7 @@ module _ (rows : Jobs) (C : List Commit) (sound : AreSound rows) (are : AreRowsO
     abbrev with_both : JobState → List ℕ → Option (List ℕ) → Option JobRow
     with_both s tops mark = Some (record r { state = s; tops = tops; indicium = mark })
 
-    -- what the commits tell after one more, of which the job and the state are known
+    -- what the commits record of the job after one more, if its job and its state are then known
     record_after : (d : Commit) (s : JobState) → job_of r.job (d ∷ C) ≡ Some (job_in r) → state_of r.job (d ∷ C) ≡ Some s
         → record_of r.job (d ∷ C) ≡ with_both s (tops_after (d ∷ C)) (held_of r.job (d ∷ C))
     record_after d s job stands =

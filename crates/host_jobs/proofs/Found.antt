@@ -1,4 +1,4 @@
--- What stands in the cells of sound rows.
+-- What the cells of sound rows hold.
 use Rattle.std.proofs.Common.{◌≡◌, ◌≢◌, ℕ, ◌+◌, ◌-◌, ◌<◌, ◌≤◌, Bool, true, false, length, get_or, Option, Some, None, refl, sym, ap, subst, ◌∙◌, ⊎_elim, arith}
 use Rattle.std.specs.Prelude.{◌==◌, ◌&&◌, IfSome, IsSome}
 use Rattle.std.proofs.lemmas.Bool.{cases_Bool, cases_lt, eqb-true, eq-eqb, ne_eqb, and_parts}
@@ -138,6 +138,6 @@ module _ (rows : Jobs) (sound : AreSound rows) where
               let is_r : x ≡ r = same_Some _ _ (sym found.0 ∙ ap (row_in rows) (same ∙ at.cell) ∙ is) in
               omega (arith, near, far, found.1, ap (λ (y : JobRow). y.job) is_r)
 
--- the tops that all rows tell
+-- the tops of all rows
 pub tops_at : (rows : Jobs) (d : ℕ) → IsDevice d → get_or (tops_in rows) (d - 1) 0 ≡ top_in d rows
 tops_at rows d is = listed_at 8 (λ i. top_in (i + 1) rows) 0 (d - 1) (omega (arith, is)) ∙ ap (λ (n : ℕ). top_in n rows) (omega (arith, is))

@@ -29,7 +29,7 @@ zeros_unread : (found : Mark × List ℕ) → read_mark (replicate 64 0) ≡ Ok 
 unfolding read_mark
 zeros_unread found e = cc
 
--- a mark is none of zeros
+-- a mark has 64 bytes, not all of them zero
 abbrev pub IsSome64 : List ℕ → Type 0
 IsSome64 x = (replicate 64 0 ≡ x → ⊥) × (length x ≡ 64)
 

@@ -10,11 +10,8 @@ use Rattle.bench_base.specs.Jobs.{cell_of, unless_job}
 use Rattle.bench_base.specs.Ranges.{IsDevice}
 use Rattle.bench_base.proofs.Facts.{some_by, not_none}
 use Rattle.node_acts.specs.RowLaws.{listed_at, listed_long}
-use Rattle.host_jobs.specs.declared.rows.JobRow.{JobRow}
-use Rattle.host_jobs.specs.declared.kept.Kept.{Kept}
-use Rattle.host_jobs.specs.declared.orders.Shelf.{Shelf}
+use Rattle.host_jobs.specs.declared.{rows.JobRow.JobRow, kept.Kept.Kept, orders.Shelf.Shelf, sizes.TheConstants.HOST_CELLS}
 use Rattle.host_jobs.specs.Acts.{shelf_in}
-use Rattle.host_jobs.specs.declared.sizes.TheConstants.{HOST_CELLS}
 use Rattle.host_jobs.specs.Rows.{Jobs, no_jobs, number_in, top_at, is_ordered, waiting, state_in, row_in, put_row, last_in, top_in, open_in, oldest_in, tops_in, opens_in, kept_of, opened_by, kept_after}
 use Rattle.host_jobs.specs.Soundness.{IsSoundJob, IsJobAt, IsFresh, AreSound, Comes, IsNext, IsDerived}
 use Rattle.host_jobs.proofs.Lists.{greatest_least, found_none, found_set}

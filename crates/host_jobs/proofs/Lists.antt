@@ -48,7 +48,7 @@ module _ {A B : Type 0} (f : A → Option B) where
       by rest None at h = let it = rest h in record { place = suc it.place; inside = omega (arith, it.inside); is = it.is }
       by rest (Some c) at h = record { place = 0; inside = omega arith; is = at ∙ h }
 
-  -- the one item of which something is found
+  -- something is found in one item alone
   pub found_one : (l : List A) (d : A) (k : ℕ) (b : B) → k < length l → f (get_or l k d) ≡ Some b
       → ((i : ℕ) → i < length l → IsSome (f (get_or l i d)) → i ≡ k) → first_found f l ≡ Some b
   found_one [] d k b lt is one = absurd (omega arith)
@@ -82,7 +82,7 @@ module _ {A B : Type 0} (f : A → Option B) where
       twice None = refl
       twice (Some b) = refl
 
-  -- an item is replaced by one of which the same is found
+  -- an item is replaced, and the same is found in the new one
   pub found_set : (l : List A) (k : ℕ) (x d : A) → f x ≡ f (get_or l k d) → first_found f (set l k x) ≡ first_found f l
   found_set [] k x d same = refl
   found_set (y ∷ l) zero x d same = ap (λ (o : Option B). first_of o (first_found f l)) same

@@ -1,14 +1,9 @@
--- What the acts are by sound rows, they are by the commits whose rows these are.
+-- The acts by sound rows are the acts by the commits of these rows.
 use Rattle.std.proofs.Common.{◌≡◌, ℕ, ◌+◌, ◌-◌, ◌≤◌, Bool, true, false, List, Option, Some, None, Result, Ok, Err, refl, sym, ap, ◌∙◌}
 use Rattle.std.specs.Prelude.{◌&&◌, nat_le, if◌then◌else◌}
 use Rattle.std.proofs.lemmas.Bool.{leb-true}
-use Rattle.bench_base.specs.declared.words.JobState.{JobState}
-use Rattle.bench_base.specs.declared.refusals.Unread.{Unread}
-use Rattle.bench_base.specs.declared.refusals.MarkFault.{MarkFault}
-use Rattle.bench_base.specs.declared.refusals.RateRefusal.{RateRefusal}
-use Rattle.bench_base.specs.declared.refusals.HostRefusal.{HostRefusal}
+use Rattle.bench_base.specs.declared.{words.JobState.JobState, refusals.Unread.Unread, refusals.MarkFault.MarkFault, refusals.RateRefusal.RateRefusal, refusals.HostRefusal.HostRefusal, ledger.Commit.Commit}
 use Rattle.bench_base.specs.declared.refusals.HostRefusal.TheVariants as no
-use Rattle.bench_base.specs.declared.ledger.Commit.{Commit}
 use Rattle.bench_base.specs.Ranges.{IsDevice}
 use Rattle.bench_base.specs.Jobs.{open_job}
 use Rattle.indicium.specs.declared.Mark.{Mark}
@@ -16,8 +11,7 @@ use Rattle.indicium.specs.Marks.{read_mark}
 use Rattle.psd_wire.specs.declared.message.Message.{Message}
 use Rattle.psd_wire.specs.declared.message.Message.TheVariants as m
 use Rattle.psd_wire.specs.Grammar.{read}
-use Rattle.host_jobs.specs.declared.orders.Shelf.{Shelf}
-use Rattle.host_jobs.specs.declared.rows.JobRow.{JobRow}
+use Rattle.host_jobs.specs.declared.{orders.Shelf.Shelf, rows.JobRow.JobRow}
 use Rattle.host_jobs.specs.Answers.{is_open, order_answer, print_answer}
 use Rattle.host_jobs.specs.Rows.{Jobs, job_row, open_in, tops_in}
 use Rattle.host_jobs.specs.Records.{tops_after}

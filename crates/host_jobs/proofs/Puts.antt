@@ -44,7 +44,7 @@ module _ (rows : Jobs) (placed : ArePlaced rows) (x : JobRow) where
     each = put_each (λ k o. IfSome o (IsJobAt k)) (record { cell = refl; sound = sound }) (λ k differs. placed.each k);
   }
 
-  -- a row whose number is no less than those of the rows before
+  -- a row with a number no less than those of the rows before
   pub put_job : (j : ℕ) → (cell_of j ≡ cell_of x.job → j ≡ x.job) → (cell_of j ≢ cell_of x.job → IsSome (job_row rows j)) → IsSome (job_row (put_row rows x) j)
   put_job j same other = ⊎_elim
       (λ (is : cell_of j ≡ cell_of x.job). some_by (job_row (put_row rows x) j) x (if_job_is j (row_in (put_row rows x) (cell_of j)) x (ap (row_in (put_row rows x)) is ∙ put_here) (sym (same is))))

@@ -4,10 +4,7 @@ use Rattle.std.specs.Prelude.{option_map, if◌then◌else◌}
 use Rattle.std.proofs.lemmas.Bool.{cases_Bool, eq-eqb, ne_eqb}
 use Rattle.std.proofs.lemmas.List.{get_or-map, length-map, get_or-set_same}
 use Rattle.std.proofs.lemmas.Option.{none-some}
-use Rattle.bench_base.specs.declared.words.Node.TheVariants.{Host}
-use Rattle.bench_base.specs.declared.words.JobState.{JobState}
-use Rattle.bench_base.specs.declared.ledger.Commit.{Commit}
-use Rattle.bench_base.specs.declared.ledger.Commit.TheVariants.{Ordered, Held, Began, Closed}
+use Rattle.bench_base.specs.declared.{words.Node.TheVariants.Host, words.JobState.JobState, ledger.Commit.Commit, ledger.Commit.TheVariants.Ordered, ledger.Commit.TheVariants.Held, ledger.Commit.TheVariants.Began, ledger.Commit.TheVariants.Closed}
 use Rattle.bench_base.specs.Nodes.{node_of, same_node}
 use Rattle.bench_base.specs.Cells.{Place, OfJob, same_place, place_of}
 use Rattle.bench_base.specs.Cells as cells
@@ -15,8 +12,7 @@ use Rattle.bench_base.specs.Jobs.{Job, cell_of, state_of}
 use Rattle.node_acts.specs.RowList.{row_at, row_of, commits_at, put}
 use Rattle.node_acts.specs.RowLaws.{listed_long, listed_at, listed_is, listed_same, put_listed}
 use Rattle.node_acts.proofs.Blanks.{none_at}
-use Rattle.host_jobs.specs.declared.rows.JobRow.{JobRow}
-use Rattle.host_jobs.specs.declared.sizes.TheConstants.{HOST_CELLS}
+use Rattle.host_jobs.specs.declared.{rows.JobRow.JobRow, sizes.TheConstants.HOST_CELLS}
 use Rattle.host_jobs.specs.ActLaws.{AreRowsOf}
 use Rattle.host_jobs.specs.Records.{record_by, record_of, job_no, cell_row, rows_after, cell_after, seen_after}
 use Rattle.host_jobs.specs.Rows.{Jobs, row_in, put_row}

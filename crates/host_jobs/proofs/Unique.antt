@@ -1,11 +1,10 @@
--- That what is kept is that of the rows has one proof at most.
+-- The statement that what is kept is that of the rows has one proof at most.
 use Rattle.std.proofs.Common.{ℕ, List, Option, Some, None}
 use Rattle.std.proofs.Props.{props}
 use Rattle.std.specs.Prelude.{IfSome}
 use Rattle.bench_base.specs.declared.words.JobState.{JobState}
 use Rattle.bench_base.specs.declared.words.JobState.TheVariants as state
-use Rattle.host_jobs.specs.declared.rows.JobRow.{JobRow}
-use Rattle.host_jobs.specs.declared.kept.Kept.{Kept}
+use Rattle.host_jobs.specs.declared.{rows.JobRow.JobRow, kept.Kept.Kept}
 use Rattle.host_jobs.specs.Rows.{Jobs, row_in}
 use Rattle.host_jobs.specs.Soundness.{IsMarked, Holds, IsSoundJob, IsJobAt, IsFresh, ArePlaced, AreJoined, AreSound, IsDerived}
 

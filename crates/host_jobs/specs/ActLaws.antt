@@ -4,9 +4,7 @@ use Rattle.bench_base.specs.Nodes.{node_of}
 use Rattle.bench_base.specs.Ranges.{IsDevice, IsPostage}
 use Rattle.bench_base.specs.Cells.{OfJob, place_of}
 use Rattle.bench_base.specs.Jobs.{cell_of}
-use Rattle.bench_base.specs.declared.words.Node.TheVariants.{Host}
-use Rattle.bench_base.specs.declared.refusals.RateRefusal.{RateRefusal}
-use Rattle.bench_base.specs.declared.ledger.Commit.{Commit}
+use Rattle.bench_base.specs.declared.{words.Node.TheVariants.Host, refusals.RateRefusal.RateRefusal, ledger.Commit.Commit}
 use Rattle.node_acts.specs.Acts.{OfCommit}
 use Rattle.node_acts.specs.declared.act.Act.{Act}
 use Rattle.host_jobs.specs.declared.rows.JobRow.{JobRow}
@@ -63,7 +61,8 @@ pub record ActsFollow : Type 0 where
 
 -- each act by the rows of the commits is the one by the commits, off which the ledger's plan is read
 pub record PlannedActs (rows : Jobs) (C : List Commit) : Type 0 where
-  pub ordered : (d piece class : ℕ) (price : Option (Result ℕ RateRefusal)) → IsDevice d → order_act d piece class price rows ≡ order_by d piece class price (in_commits C)
+  pub ordered : (d piece class : ℕ) (price : Option (Result ℕ RateRefusal)) → IsDevice d
+      → order_act d piece class price rows ≡ order_by d piece class price (in_commits C)
   pub sent : (j : ℕ) → debit_message_act j rows ≡ debit_message_by j (in_commits C)
   pub taken : (bytes : List ℕ) → take_act bytes rows ≡ take_by bytes (in_commits C)
   pub begun : (j : ℕ) → begin_print_act j rows ≡ begin_print_by j (in_commits C)

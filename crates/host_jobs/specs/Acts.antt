@@ -1,24 +1,17 @@
 -- What each call of the host does, by what it looks up: in its rows, or in a list of commits. Postage is in mills.
 use Rattle.std.specs.Prelude.{ℕ, ◌-◌, List, [], get_or, set, max, Option, Some, None, Result, Ok, Err}
-use Rattle.bench_base.specs.declared.words.JobState.{JobState}
+use Rattle.bench_base.specs.declared.{words.JobState.JobState, refusals.Unread.Unread, refusals.MarkFault.MarkFault, refusals.RateRefusal.RateRefusal, refusals.HostRefusal.HostRefusal}
 use Rattle.bench_base.specs.declared.words.JobState.TheVariants as state
-use Rattle.bench_base.specs.declared.refusals.Unread.{Unread}
 use Rattle.bench_base.specs.declared.refusals.Unread.TheVariants as unread
-use Rattle.bench_base.specs.declared.refusals.MarkFault.{MarkFault}
-use Rattle.bench_base.specs.declared.refusals.RateRefusal.{RateRefusal}
-use Rattle.bench_base.specs.declared.refusals.HostRefusal.{HostRefusal}
 use Rattle.bench_base.specs.declared.refusals.HostRefusal.TheVariants as no
 use Rattle.bench_base.specs.declared.ledger.Commit.TheVariants as c
-use Rattle.node_acts.specs.declared.act.Act.{Act}
-use Rattle.node_acts.specs.declared.act.Act.TheVariants.{Refuse, Tell, Commits}
+use Rattle.node_acts.specs.declared.{act.Act.Act, act.Act.TheVariants.Refuse, act.Act.TheVariants.Tell, act.Act.TheVariants.Commits}
 use Rattle.indicium.specs.declared.Mark.{Mark}
 use Rattle.indicium.specs.Marks.{read_mark}
 use Rattle.psd_wire.specs.declared.message.Message.{Message}
 use Rattle.psd_wire.specs.declared.message.Message.TheVariants as m
 use Rattle.psd_wire.specs.Grammar.{read, spell}
-use Rattle.host_jobs.specs.declared.orders.Shelf.{Shelf}
-use Rattle.host_jobs.specs.declared.acts.Ordered.{Ordered}
-use Rattle.host_jobs.specs.declared.rows.JobRow.{JobRow}
+use Rattle.host_jobs.specs.declared.{orders.Shelf.Shelf, acts.Ordered.Ordered, rows.JobRow.JobRow}
 use Rattle.host_jobs.specs.Answers.{order_answer, send_answer, print_answer, close_answer, hold_answer, debit_of}
 use Rattle.host_jobs.specs.Rows.{Jobs, job_in, job_row, last_in, top_in, open_in, oldest_in, tops_in}
 

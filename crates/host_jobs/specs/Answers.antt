@@ -1,8 +1,7 @@
 -- What the host answers: the first refusal that holds, otherwise the number of a new job, or that nothing refuses. Postage is in mills.
 use Rattle.std.specs.Prelude.{ℕ, ◌+◌, ◌-◌, Bool, true, false, not, ◌&&◌, List, [], ◌∷◌, Option, Some, None, Result, Ok, Err, ◌==◌, nat_le}
-use Rattle.bench_base.specs.declared.words.JobState.{JobState}
+use Rattle.bench_base.specs.declared.{words.JobState.JobState, refusals.HostRefusal.HostRefusal}
 use Rattle.bench_base.specs.declared.words.JobState.TheVariants as state
-use Rattle.bench_base.specs.declared.refusals.HostRefusal.{HostRefusal}
 use Rattle.bench_base.specs.declared.refusals.HostRefusal.TheVariants as no
 use Rattle.bench_base.specs.Rows.{first_holding}
 use Rattle.bench_base.specs.Jobs.{Job}

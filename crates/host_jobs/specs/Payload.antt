@@ -29,7 +29,7 @@ head_part r = row head_table (head r)
 unfoldable pub tops_part : JobRow → List ℕ
 tops_part r = row tops_table r.tops
 
--- the mark, and zeros while there is none
+-- the mark; zeros if there is no mark
 unfoldable pub mark_part : Option (List ℕ) → List ℕ
 mark_part None = replicate 64 0
 mark_part (Some x) = x

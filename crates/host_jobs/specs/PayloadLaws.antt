@@ -1,4 +1,4 @@
--- How jobs are told by their payloads.
+-- Payloads determine their jobs.
 use Rattle.std.specs.Prelude.{◌≡◌, ℕ, List, length}
 use Rattle.host_jobs.specs.declared.rows.JobRow.{JobRow}
 use Rattle.host_jobs.specs.Soundness.{IsSoundJob}

@@ -1,23 +1,17 @@
 -- How each call of the host is reported, and what the ledger plans for it: its act, by what is looked up in the commits, the newest first. Postage is
 -- in mills.
 use Rattle.std.specs.Prelude.{ℕ, ◌-◌, List, Option, None, Result, if◌then◌else◌}
-use Rattle.bench_base.specs.declared.refusals.RateRefusal.{RateRefusal}
-use Rattle.bench_base.specs.declared.ledger.Commit.{Commit}
-use Rattle.bench_base.specs.declared.events.Reply.{Reply}
+use Rattle.bench_base.specs.declared.{refusals.RateRefusal.RateRefusal, ledger.Commit.Commit, events.Reply.Reply}
 use Rattle.bench_base.specs.declared.events.Reply.TheVariants as r
 use Rattle.bench_base.specs.Plans.{Plan}
 use Rattle.bench_base.specs.Jobs.{last_job, state_of, open_job, top, in_cells}
-use Rattle.node_acts.specs.declared.act.Act.{Act}
-use Rattle.node_acts.specs.declared.said.Said.{Said}
-use Rattle.node_acts.specs.declared.said.GivenOut.TheVariants.{Printed}
+use Rattle.node_acts.specs.declared.{act.Act.Act, said.Said.Said, said.GivenOut.TheVariants.Printed}
 use Rattle.node_acts.specs.Said.{replies, gives, sends, saying, said_plan}
-use Rattle.host_jobs.specs.declared.rows.JobRow.{JobRow}
-use Rattle.host_jobs.specs.declared.acts.Ordered.{Ordered}
-use Rattle.host_jobs.specs.declared.orders.Shelf.{Shelf}
+use Rattle.host_jobs.specs.declared.{rows.JobRow.JobRow, acts.Ordered.Ordered, orders.Shelf.Shelf}
 use Rattle.host_jobs.specs.Acts.{HostAct, LookUps, order_by, debit_message_by, begin_print_by, close_by, take_by}
 use Rattle.host_jobs.specs.Records.{tops_after, record_of}
 
--- == what is told ==
+-- == what is reported ==
 
 -- an act, by how it says what it answers
 abbrev pub says : {A : Type 0} → (A → Said) → HostAct A → Act JobRow Reply Said

@@ -1,13 +1,10 @@
 -- The rows of the host's cells after a list of commits, the newest first.
 use Rattle.std.specs.Prelude.{ℕ, ◌+◌, List, [], ◌∷◌, Option, Some, None, option_map, if◌then◌else◌}
-use Rattle.bench_base.specs.declared.words.JobState.{JobState}
-use Rattle.bench_base.specs.declared.ledger.Commit.{Commit}
-use Rattle.bench_base.specs.declared.ledger.Commit.TheVariants.{Ordered, Held, Began, Closed}
+use Rattle.bench_base.specs.declared.{words.JobState.JobState, ledger.Commit.Commit, ledger.Commit.TheVariants.Ordered, ledger.Commit.TheVariants.Held, ledger.Commit.TheVariants.Began, ledger.Commit.TheVariants.Closed}
 use Rattle.bench_base.specs.Cells.{OfJob, same_place, place_of, commits_at}
 use Rattle.bench_base.specs.Jobs.{Job, job_of, state_of, held_of, top}
 use Rattle.node_acts.specs.RowList.{RowList, listed}
-use Rattle.host_jobs.specs.declared.rows.JobRow.{JobRow}
-use Rattle.host_jobs.specs.declared.sizes.TheConstants.{HOST_CELLS}
+use Rattle.host_jobs.specs.declared.{rows.JobRow.JobRow, sizes.TheConstants.HOST_CELLS}
 use Rattle.host_jobs.specs.Rows.{Jobs}
 
 -- the tops of devices 1 to 8

@@ -5,9 +5,7 @@ use Rattle.bench_base.specs.declared.words.JobState.TheVariants as state
 use Rattle.bench_base.specs.Rows.{first_of}
 use Rattle.bench_base.specs.Jobs.{Job, cell_of, unless_job}
 use Rattle.node_acts.specs.RowList.{listed}
-use Rattle.host_jobs.specs.declared.rows.JobRow.{JobRow}
-use Rattle.host_jobs.specs.declared.kept.Kept.{Kept}
-use Rattle.host_jobs.specs.declared.sizes.TheConstants.{HOST_CELLS}
+use Rattle.host_jobs.specs.declared.{rows.JobRow.JobRow, kept.Kept.Kept, sizes.TheConstants.HOST_CELLS}
 
 -- == one row ==
 
@@ -51,7 +49,7 @@ no_jobs = listed HOST_CELLS (λ k. None)
 abbrev pub row_in : Jobs → ℕ → Option JobRow
 row_in rows k = get_or rows k None
 
--- the row takes the place of what stood in its cell
+-- the row takes the place of what was in its cell
 abbrev pub put_row : Jobs → JobRow → Jobs
 put_row rows r = set rows (cell_of r.job) (Some r)
 
@@ -72,7 +70,7 @@ abbrev pub first_found : {A B : Type 0} → (A → Option B) → List A → Opti
 first_found f [] = None
 first_found f (x ∷ xs) = first_of (f x) (first_found f xs)
 
--- the last job, 0 where there is none
+-- the last job; 0 if there is no job
 abbrev pub last_in : Jobs → ℕ
 last_in rows = greatest number_in rows
 

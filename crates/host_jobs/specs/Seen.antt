@@ -5,8 +5,7 @@ use Rattle.bench_base.specs.declared.sizes.TheConstants.{MOST_COMMITS}
 use Rattle.node_acts.specs.Views.{Counting}
 use Rattle.node_acts.specs.RowList.{RowList, row_at, row_of, commits_at, counting_by}
 use Rattle.bench_base.specs.Jobs as jobs
-use Rattle.host_jobs.specs.declared.rows.JobRow.{JobRow}
-use Rattle.host_jobs.specs.declared.sizes.TheConstants.{HOST_CELLS}
+use Rattle.host_jobs.specs.declared.{rows.JobRow.JobRow, sizes.TheConstants.HOST_CELLS}
 use Rattle.host_jobs.specs.Rows.{Jobs}
 use Rattle.host_jobs.specs.Soundness.{AreSound}
 

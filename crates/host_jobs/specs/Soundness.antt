@@ -4,9 +4,7 @@ use Rattle.bench_base.specs.declared.words.JobState.{JobState}
 use Rattle.bench_base.specs.declared.words.JobState.TheVariants as state
 use Rattle.bench_base.specs.Ranges.{IsDevice, IsPostage}
 use Rattle.bench_base.specs.Jobs.{cell_of}
-use Rattle.host_jobs.specs.declared.rows.JobRow.{JobRow}
-use Rattle.host_jobs.specs.declared.kept.Kept.{Kept}
-use Rattle.host_jobs.specs.declared.sizes.TheConstants.{HOST_CELLS}
+use Rattle.host_jobs.specs.declared.{rows.JobRow.JobRow, kept.Kept.Kept, sizes.TheConstants.HOST_CELLS}
 use Rattle.host_jobs.specs.Order.{IsMarkOf}
 use Rattle.host_jobs.specs.Rows.{Jobs, job_in, is_ordered, waiting, row_in, put_row, job_row, last_in, top_in, kept_of}
 
@@ -80,7 +78,7 @@ pub record IsDerived (rows : Jobs) (kept : Kept) : Type 0 where
 
 -- == the row that is written next ==
 
--- it comes after what stood in its cell: the same job, or one that is closed
+-- it comes after what was in its cell: the same job, or one that is closed
 abbrev pub Comes : JobRow → JobRow → Type 0
 Comes x old = ((old.job ≡ x.job) × (old.device ≡ x.device)) ⊎ ((old.state ≡ state.Closed) × (old.job ≤ x.job))
 

@@ -1,9 +1,8 @@
--- The order in which the host's own calls make its commits, the newest first: the order of `Order`, and what the refusals of
+-- The order of the commits that the host's own calls make, the newest first: that of `Order`, and what the refusals of
 -- each call leave.
 use Rattle.std.specs.Prelude.{◌≡◌, ℕ, ◌+◌, ◌-◌, ◌<◌, ◌≤◌, true, List, [], ◌∷◌, Some, None}
 use Rattle.bench_base.specs.declared.words.JobState.TheVariants as state
-use Rattle.bench_base.specs.declared.ledger.Commit.{Commit}
-use Rattle.bench_base.specs.declared.ledger.Commit.TheVariants.{Ordered, Held, Began, Closed}
+use Rattle.bench_base.specs.declared.{ledger.Commit.Commit, ledger.Commit.TheVariants.Ordered, ledger.Commit.TheVariants.Held, ledger.Commit.TheVariants.Began, ledger.Commit.TheVariants.Closed}
 use Rattle.bench_base.specs.Jobs.{Job, last_job, job_of, state_of, open_job, top}
 use Rattle.host_jobs.specs.Answers.{is_open}
 use Rattle.host_jobs.specs.Order.{IsMarkOf}

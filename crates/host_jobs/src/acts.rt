@@ -94,11 +94,11 @@ fn ordered_act(
     }
 }
 
-/// Orders a piece of the device in this class, for what `price` says: there are no rates, the rates refuse, or the postage.
+/// Orders a piece of the device in this class. `price` says that there are no rates, that the rates refuse, or the postage.
 ///
-/// The first refusal that holds: `NoRates`; `Rate` with the rates' own; `OpenJob` where the device has a job that is
-/// ordered and neither held nor closed; `Used` where the piece is not above all that were held; `NumberFull` after job
-/// 4,294,967,295; `JobsFull` where the cell of the new job holds one that isn't closed.
+/// The first refusal that holds is returned. `NoRates` if there are no rates; `Rate` with the rates' own refusal if they refuse. Then
+/// `OpenJob` if the device has a job that is ordered and neither held nor closed, and `Used` if the piece is not above all that
+/// were held. Then `NumberFull` after job 4,294,967,295, and `JobsFull` if the cell of the new job holds one that isn't closed.
 pub fn order_act(
     device: DevNo,
     piece: u32,
@@ -158,7 +158,7 @@ fn moved(row: &JobRow, state: JobState, rows: &JobRows, kept: &Kept) -> JobRow
     }
 }
 
-/// Begins the print of the job, whose mark is told. `NoJob` where no cell holds the job; `State` where it is not held.
+/// Begins the print of the job, and reports its mark. `NoJob` if no cell holds the job; `State` if it is not held.
 pub fn begin_print_act(job: u32, rows: &JobRows, kept: &Kept) -> HostAct<[u8; 64]>
     requires { IsDerived rows.now kept.now }
     ensures { result ≡ act_of.begin_print_act job rows.now }
@@ -217,7 +217,7 @@ fn held_row(row: &JobRow, mark: &[u8; 64], rows: &JobRows, kept: &Kept) -> JobRo
     }
 }
 
-// The job of the device that waits for its mark; there is none of another number than 1 to 8.
+// The job of the device that waits for its mark. No device outside 1 to 8 has one.
 fn open_job(device: u32, rows: &JobRows, kept: &Kept) -> Option<u32>
     requires { IsDerived rows.now kept.now }
     ensures { result ≡ told.open_in device rows.now }
@@ -261,10 +261,11 @@ fn mark_act(bytes: &[u8; 64], rows: &JobRows, kept: &Kept) -> HostAct<u32>
     }
 }
 
-/// Takes a Release, with a mark of either version, whose job is told. The first refusal that holds: `Unread` of
-/// `read_message`; `Unread` with `Tag` for another message; `NoJob` where the mark's device has no job that is ordered;
-/// `OtherPiece`, `OtherPostage` and `OtherClass`, with the job's value, where the mark's differs. The code of the mark is not
-/// checked.
+/// Takes a Release, with a mark of either version, and reports its job. The MAC of the mark is not checked.
+///
+/// The first refusal that holds is returned. `Unread` of `read_message`; `Unread` with `Tag` for another message; `NoJob` if the
+/// mark's device has no job that is ordered. Then `OtherPiece`, `OtherPostage` and `OtherClass`, with the job's value, if the
+/// mark's differs.
 pub fn take_act(bytes: &[u8], rows: &JobRows, kept: &Kept) -> HostAct<u32>
     requires { IsDerived rows.now kept.now }
     ensures { result ≡ act_of.take_act bytes.now rows.now }

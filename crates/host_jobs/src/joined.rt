@@ -119,9 +119,9 @@ fn open_jobs_of(rows: &JobRows, tops: &[u32; 8]) -> Option<[Option<u32>; 8]>
 }
 
 impl Kept {
-    /// What is kept of these rows, each of which is sound and in its own cell. None if and only if they do not agree: where
-    /// one of the last 1,024 jobs is missing, two jobs of a device wait for a mark, or one waits for a piece that is not
-    /// above the device's top.
+    /// What is kept of these rows. Each row is sound and in its own cell. None if and only if they do not agree: one of the
+    /// last 1,024 jobs is missing, two jobs of a device wait for a mark, or one waits for a piece that is not above the
+    /// device's top.
     pub fn of(rows: &JobRows) -> Option<Kept>
         requires placed { ArePlaced rows.now }
         ensures joined { IsSome result ↔ AreJoined rows.now }

@@ -33,7 +33,7 @@ impl Model for JobRows {
 /// What is kept of the rows.
 #[derive(Clone, Copy)]
 pub struct Kept {
-    /// The last job, 0 where there is none.
+    /// The last job; 0 if there is no job.
     pub last: u32,
     /// The job of each of the devices 1 to 8 that is ordered and neither held nor closed.
     pub open_jobs: [Option<u32>; 8],

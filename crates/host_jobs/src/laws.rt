@@ -5,10 +5,10 @@ ghost use Rattle.host_jobs.specs.SeenLaws.{SeenLaws};
 
 /// What the host's calls do by its rows:
 ///
-/// - `sound`: where a call commits a row, it is a commit of the host in the row's cell, and the rows with that one are sound,
-///   also together;
-/// - `follows`: where the rows are those of the commits before, they are then those of the commits and that one;
-/// - `planned`: what a call does by these rows is what it does by the commits, off which the ledger's plan is read.
+/// - `sound`. If a call commits a row, it is a commit of the host in the row's cell. The rows with that one are sound, also
+///   together.
+/// - `follows`. If the rows are those of the commits before, they are then those of the commits and that one.
+/// - `planned`. What a call does by these rows is what it does by the commits, and the ledger's plan is read off these.
 pub fn acts_follow_the_commits()
     ensures sound { ActsLeaveSound }
     ensures follows { ActsFollow }

@@ -34,9 +34,9 @@ fn is_open(state: Option<JobState>) -> bool
 
 /// The number of the new job for this piece of the device.
 ///
-/// The first refusal that holds: `OpenJob` where the device has a job that is ordered and neither held nor closed,
-/// `Used` where the piece is not above all that were held, `NumberFull` after job 4,294,967,295, `JobsFull` where the
-/// cell of the new job holds one that isn't closed.
+/// The first refusal that holds is returned. `OpenJob` if the device has a job that is ordered and neither held nor closed;
+/// then `Used` if the piece is not above all that were held. Then `NumberFull` after job 4,294,967,295, and `JobsFull` if
+/// the cell of the new job holds one that isn't closed.
 pub fn order(shelf: &Shelf, piece: u32) -> Result<u32, HostRefusal>
     ensures exact { result ≡ order_answer piece shelf.now shelf.now.open_job }
 {
@@ -55,8 +55,8 @@ pub fn order(shelf: &Shelf, piece: u32) -> Result<u32, HostRefusal>
     Ok(shelf.last + 1)
 }
 
-/// Why a job of this piece, postage and class doesn't take the mark: the first in which the two differ. None where it
-/// takes it.
+/// Why a job of this piece, postage and class doesn't take the mark: the first of these that differs. None if the job
+/// takes the mark.
 pub fn hold(mark: &Mark, piece: u32, postage: u32, class: u16) -> Option<HostRefusal>
     ensures exact { result ≡ hold_answer mark.now piece postage class }
 {

@@ -9,7 +9,7 @@ use Rattle.host_node.specs.Boots.{JobsRead}
 use Rattle.host_node.specs.Cells.{rows_kept}
 use Rattle.host_node.specs.Payloads.{HoldRows}
 use Rattle.host_node.specs.Table.{host_table}
-use Rattle.host_node.specs.declared.kept.HostRows.{HostRows}
+use Rattle.host_node.specs.declared.rows.HostRows.{HostRows}
 
 module _ (held : ℕ → Option Held) (rows : Jobs) (long : length rows ≡ HOST_CELLS) (read : JobsRead held HOST_CELLS rows) where
   hold_rows : HoldRows (row_in rows) held

@@ -1,16 +1,15 @@
--- That the host can write what its calls commit.
+-- The host can write what its calls commit.
 use Rattle.std.proofs.Common.{◌≡◌, sym, ◌∙◌, ap, subst}
 use Rattle.bench_base.specs.declared.ledger.Commit.{Commit}
 use Rattle.node_acts.specs.declared.act.Act.TheVariants.{Commits}
-use Rattle.host_jobs.specs.declared.kept.Kept.{Kept}
-use Rattle.host_jobs.specs.declared.rows.JobRow.{JobRow}
+use Rattle.host_jobs.specs.declared.{kept.Kept.Kept, rows.JobRow.JobRow}
 use Rattle.host_jobs.specs.Acts.{HostAct}
 use Rattle.host_jobs.specs.ActLaws.{LeavesSound, SoundActs}
 use Rattle.host_jobs.specs.Rows.{Jobs}
 use Rattle.host_jobs.specs.Soundness.{IsDerived, IsNext}
 use Rattle.host_jobs.proofs.SoundActs.{leaves}
 
--- the acts by the jobs, of which what is kept is theirs
+-- the acts by the jobs, if what is kept is theirs
 pub sound_acts : (rows : Jobs) (kept : Kept) → IsDerived rows kept → SoundActs rows
 sound_acts rows kept is = leaves rows is.sound
 

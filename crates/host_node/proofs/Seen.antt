@@ -3,14 +3,13 @@ use Rattle.std.proofs.Common.{◌≡◌, ℕ, Option, sym, ◌∙◌, ap, subst}
 use Rattle.std.specs.Prelude.{IfSome}
 use Rattle.nv_store.specs.Slot.{Held}
 use Rattle.row_node.specs.Tables.{Filled, Keeps, seen_of}
-use Rattle.host_jobs.specs.declared.rows.JobRow.{JobRow}
-use Rattle.host_jobs.specs.declared.kept.Kept.{Kept}
+use Rattle.host_jobs.specs.declared.{rows.JobRow.JobRow, kept.Kept.Kept}
 use Rattle.host_jobs.specs.Rows.{Jobs}
 use Rattle.host_jobs.specs.Seen.{cell_of, rows_in}
 use Rattle.host_jobs.specs.Soundness.{IsDerived, IsSoundJob, IsJobAt, IsNext}
 use Rattle.host_node.specs.Cells.{rows_kept, row_here}
 use Rattle.host_node.specs.Table.{host_table}
-use Rattle.host_node.specs.declared.kept.HostRows.{HostRows}
+use Rattle.host_node.specs.declared.rows.HostRows.{HostRows}
 
 module _ (m : HostRows) (held : ℕ → Option Held) where
   rows_are : Filled host_table m held → rows_in (seen_of host_table m held) ≡ m.jobs

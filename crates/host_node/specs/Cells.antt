@@ -4,8 +4,7 @@ use Rattle.std.proofs.lemmas.List.{ext_get_or, get_or-map, get_or-set_same, get_
 use Rattle.node_acts.specs.RowList.{row_at, row_of, commits_at, put}
 use Rattle.nv_store.specs.Slot.{Held}
 use Rattle.row_node.specs.Kept.{IsFilled, seen_by, seen_long, seen_row}
-use Rattle.host_jobs.specs.declared.rows.JobRow.{JobRow}
-use Rattle.host_jobs.specs.declared.sizes.TheConstants.{HOST_CELLS}
+use Rattle.host_jobs.specs.declared.{rows.JobRow.JobRow, sizes.TheConstants.HOST_CELLS}
 use Rattle.host_jobs.proofs.Cells.{cell_lt}
 use Rattle.host_jobs.proofs.Keeping.{none_at}
 use Rattle.host_jobs.specs.Rows.{Jobs, no_jobs, row_in, put_row}
@@ -16,7 +15,8 @@ pub cell_inside : (x : JobRow) → cell_of x < HOST_CELLS
 cell_inside x = cell_lt x.job
 
 -- what is seen of cells that hold these jobs are the jobs
-pub rows_kept : (rows : Jobs) (held : ℕ → Option Held) → length rows ≡ HOST_CELLS → HoldRows (row_in rows) held → rows_in (seen_by HOST_CELLS held (row_in rows)) ≡ rows
+pub rows_kept : (rows : Jobs) (held : ℕ → Option Held) → length rows ≡ HOST_CELLS → HoldRows (row_in rows) held
+    → rows_in (seen_by HOST_CELLS held (row_in rows)) ≡ rows
 rows_kept rows held long filled = ext_get_or None (rows_in s) rows (many ∙ sym long) (λ k lt.
     let inside : k < HOST_CELLS = omega (arith, lt, many) in
     get_or-map row_of s k None None (omega (arith, inside, seen_many)) ∙ seen_row HOST_CELLS IsPayloadOf (row_in rows) held filled k inside)
@@ -48,4 +48,5 @@ row_other rows x k differs = get_or-set_other rows (cell_of x) k (Some x) None d
 -- blank cells hold none
 pub none_hold : (held : ℕ → Option Held) → ((k : ℕ) → held k ≡ None) → HoldRows (row_in no_jobs) held
 none_hold held none k lt =
-    subst (λ (o : Option JobRow). IsFilled (IsPayloadOf k) o (held k)) (sym (none_at k)) (subst (λ (h : Option Held). IsFilled (IsPayloadOf k) None h) (sym (none k)) tt)
+    subst (λ (o : Option JobRow). IsFilled (IsPayloadOf k) o (held k)) (sym (none_at k))
+    (subst (λ (h : Option Held). IsFilled (IsPayloadOf k) None h) (sym (none k)) tt)

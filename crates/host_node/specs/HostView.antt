@@ -1,8 +1,6 @@
 -- What contracts see of the host and of its calls.
 use Rattle.std.specs.Prelude.{Option, Result}
-use Rattle.bench_base.specs.declared.ledger.Commit.{Commit}
-use Rattle.bench_base.specs.declared.refusals.HostRefusal.{HostRefusal}
-use Rattle.bench_base.specs.declared.refusals.Fail.{Fail}
+use Rattle.bench_base.specs.declared.{ledger.Commit.Commit, refusals.HostRefusal.HostRefusal, refusals.Fail.Fail}
 use Rattle.nv_model.specs.declared.nv.Nv.{Ghosts}
 use Rattle.host_jobs.specs.Acts.{HostAct}
 use Rattle.host_jobs.specs.Rows.{Jobs}

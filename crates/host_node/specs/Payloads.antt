@@ -4,8 +4,7 @@ use Rattle.nv_model.specs.declared.nv.Nv.{Ghosts}
 use Rattle.nv_store.specs.Slot.{Held}
 use Rattle.row_node.specs.Shows.{IsDamagedTable}
 use Rattle.row_node.specs.Kept.{AreFilled}
-use Rattle.host_jobs.specs.declared.rows.JobRow.{JobRow}
-use Rattle.host_jobs.specs.declared.sizes.TheConstants.{JOB_BYTES, HOST_CELLS}
+use Rattle.host_jobs.specs.declared.{rows.JobRow.JobRow, sizes.TheConstants.JOB_BYTES, sizes.TheConstants.HOST_CELLS}
 use Rattle.host_jobs.specs.Payload.{JobReadsAs}
 use Rattle.host_jobs.specs.Seen.{cell_of, rows_in}
 use Rattle.host_jobs.specs.Soundness.{AreSound}

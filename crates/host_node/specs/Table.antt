@@ -10,8 +10,7 @@ use Rattle.row_node.specs.Tables.{Table, seen_of}
 use Rattle.row_node.specs.Boots.{Found}
 use Rattle.row_node.specs.Counts.{few_found, few_after}
 use Rattle.row_node.specs.Laws.{Laws}
-use Rattle.host_jobs.specs.declared.rows.JobRow.{JobRow}
-use Rattle.host_jobs.specs.declared.sizes.TheConstants.{JOB_BYTES, HOST_CELLS}
+use Rattle.host_jobs.specs.declared.{rows.JobRow.JobRow, sizes.TheConstants.JOB_BYTES, sizes.TheConstants.HOST_CELLS}
 use Rattle.host_jobs.specs.Payload.{job_bytes}
 use Rattle.host_jobs.specs.Rows.{row_in}
 use Rattle.host_jobs.specs.Soundness.{AreSound, IsDerived}
@@ -21,7 +20,7 @@ use Rattle.host_node.specs.Unique.{kept_prop}
 use Rattle.host_node.specs.Payloads.{IsPayloadOf}
 use Rattle.host_node.specs.Cells.{cell_inside, rows_put}
 use Rattle.host_node.specs.Sound.{IsFit}
-use Rattle.host_node.specs.declared.kept.HostRows.{HostRows}
+use Rattle.host_node.specs.declared.rows.HostRows.{HostRows}
 
 pub payload_prop : (k : ℕ) (x : JobRow) (p : List ℕ) → IsProp (IsPayloadOf k x p)
 payload_prop k x p = hlevel props

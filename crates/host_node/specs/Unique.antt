@@ -1,4 +1,4 @@
--- That what is kept of the jobs is theirs has one proof at most.
+-- The statement that what is kept of the jobs is theirs has one proof at most.
 use Rattle.host_jobs.specs.declared.kept.Kept.{Kept}
 use Rattle.host_jobs.specs.Rows.{Jobs}
 use Rattle.host_jobs.specs.Soundness.{IsDerived}

@@ -1,9 +1,9 @@
 //! The calls of the host. Postage is in mills.
 //!
-//! A call that commits answers `Store` with `Failed`, before every refusal, if and only if an earlier call of this value
-//! answered Power or Fault; after every refusal it answers Power or Fault where its commit failed, and Worn where the cell
-//! of the job has 4,294,967,295 commits. A refusal and Worn leave the host and its storage as they were. The others never
-//! answer `Store`.
+//! A call that commits may answer `Store`. It answers `Store` with `Failed`, before every refusal, if and only if an earlier
+//! call of this value answered Power or Fault. After every refusal it answers Power or Fault if its commit failed, and Worn
+//! if the cell of the job has 4,294,967,295 commits. A refusal and Worn leave the host and its storage as they were. Calls
+//! that don't commit never answer `Store`.
 ghost use Rattle.std.specs.Prelude.{◌≡◌};
 ghost use Rattle.node_acts.specs.Results.{answer_of};
 ghost use Rattle.host_jobs.specs.ActLaws.{IsPrice};

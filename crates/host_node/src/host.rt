@@ -10,7 +10,7 @@ ghost use Rattle.host_node.specs.Payloads.{IsDamaged};
 ghost use Rattle.host_node.specs.Table.{host_table};
 ghost use Rattle.row_node.specs.Boots.{AllShowSound};
 
-use crate::kept::{HostRoom, HostRows};
+use crate::rows::{HostRoom, HostRows};
 use bench_base::ledger::Commit;
 use bench_base::refusals::{BootFail, HostFail};
 use host_jobs::{HostAct, JobRows, JobsOf, Kept};
@@ -28,10 +28,10 @@ impl<N: Nv> Host<N> {
 
     /// The host in its storage and in this memory, or why it does not start, with both. Power is not lost. Nothing is written.
     ///
-    /// `Damaged` where the storage has not 245,760 bytes; where a cell has an open slot of count 0 or two open slots of equal
-    /// counts; where a current payload reads as no job of its cell; and where the jobs do not agree: one of the last 1,024 is
-    /// missing, two of a device are ordered, or one is ordered for a piece that is not above the device's top. Blank storage is
-    /// a host without jobs.
+    /// `Damaged` if the storage has not 245,760 bytes, or if a cell has an open slot of count 0 or two open slots of equal
+    /// counts. Also if a current payload reads as no job of its cell, or if the jobs do not agree. They do not agree if one of
+    /// the last 1,024 is missing, two of a device are ordered, or one is ordered for a piece that is not above the device's
+    /// top. Blank storage is a host without jobs.
     pub fn boot(nv: N, room: HostRoom) -> Result<Host<N>, (N, HostRoom, BootFail)>
         requires { (N.meters nv).lost ≡ false }
 

@@ -1,5 +1,5 @@
 //! What the host lends to its calls.
-use crate::kept::{HostNode, HostRows};
+use crate::rows::{HostNode, HostRows};
 use host_jobs::{JobRows, JobsOf, Kept};
 use nv_model::Nv;
 

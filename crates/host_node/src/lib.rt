@@ -4,10 +4,9 @@
 mod boot;
 mod calls;
 mod host;
-mod kept;
 mod lending;
 mod rows;
 
 pub use host::Host;
 pub use host_jobs::Ordered;
-pub use kept::{HostNode, HostRoom, HostRows};
+pub use rows::{HostNode, HostRoom, HostRows};

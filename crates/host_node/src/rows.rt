@@ -1,10 +1,27 @@
-//! The jobs of the host as the rows of a node.
+//! The jobs of the host, as its node keeps them, and the node.
+ghost use Rattle.std.specs.Prelude.{◌≡◌, length};
+ghost use Rattle.host_jobs.specs.declared.sizes.TheConstants.{HOST_CELLS};
+
 use crate::boot::read_jobs;
-use crate::kept::HostRows;
 use host_jobs::{HOST_CELLS, JOB_BYTES, JobRow, JobRows, Kept, cell_of, put};
 use nv_store::Room;
-use row_node::Rows;
+use row_node::{RowNode, RowRoom, Rows};
 use std::alloc::{AllocError, Global};
+
+/// The jobs that the cells hold, and what is kept of them.
+#[derive(Drop)]
+pub struct HostRows {
+    pub(crate) jobs: JobRows,
+    pub(crate) kept: Kept,
+    ghost long: { length jobs ≡ HOST_CELLS },
+}
+
+/// Memory for the 1,024 cells of the host, and for the rows of their jobs.
+pub type HostRoom = RowRoom<HostRows>;
+
+/// The host over storage of 245,760 bytes: 1,024 cells of two slots, each with a job as payload. While it is off, what it
+/// knew of its storage counts for nothing.
+pub type HostNode<N> = RowNode<N, HostRows>;
 
 impl Rows for HostRows {
     ghost use Rattle.host_node.specs.Table.{host_table, host_laws};

@@ -7,8 +7,7 @@ use Rattle.std.proofs.lemmas.List.Kept.{AllPairs-cons}
 use Rattle.std.proofs.lemmas.Result.{IfOk-at_ok}
 use Rattle.std.proofs.lemmas.Option.{none-some, same_Some}
 use Rattle.toml.specs.Data.{Data, string, integer, float, boolean, datetime, array, table, Items, no_items, item, Members}
-use Rattle.host_rates.specs.Tables.{StepTable, ClassTable, RateTable, IsPrice, IsStep, IsClass, IsRates, step_for, step_price, class_price, price_in}
-use Rattle.host_rates.specs.Tables.{class_numbered}
+use Rattle.host_rates.specs.Tables.{StepTable, ClassTable, RateTable, IsPrice, IsStep, IsClass, IsRates, step_for, step_price, class_price, price_in, class_numbered}
 use Rattle.host_rates.specs.Reading.{each, listed, whole, where_holds, mills_of, step_of, steps_of, class_of, classes_of, rates_in, rates_of, document, two, two_in, both, is_few, rises_above, has_number, differ}
 use Rattle.host_rates.specs.Tariffs.{price, price_by}
 

@@ -8,7 +8,7 @@ use Rattle.host_rates.specs.Reading.{document, rates_in}
 use Rattle.host_rates.specs.Answers.{AreRatesOf, answer_of}
 use Rattle.host_rates.specs.Tariffs.{price, reading, sizes_of}
 
--- a document's rates, whatever stands for its faults
+-- a document's rates, whatever values represent its faults
 answer_of_some : {F : Type 0} → (no_toml no_form : F) (o : Option Members) (r : RateTable) → option_and_then rates_in o ≡ Some r → answer_of no_toml no_form o ≡ Ok r
 answer_of_some no_toml no_form None r is = absurd (none-some r is)
 answer_of_some no_toml no_form (Some ms) r is = rw is

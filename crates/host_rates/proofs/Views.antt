@@ -54,7 +54,7 @@ read_stop {f} {vs} {i} {done} {v} upto lt here is = upto.whole ∙ ap (option_ma
 pub read_all : {A : Type 0} → {f : Data → Option A} {vs : List Value} {i : ℕ} {done : List A} → IsReadUpTo f vs i done → length vs ≤ i → each f (items_view vs) ≡ Some done
 read_all {vs = vs} upto ge = upto.whole ∙ (rw (drop_of_length-le vs ge, append-nil) refl)
 
--- a part that failed to be read fails the whole, of which it leaves nothing
+-- a part that failed to be read fails the whole, and leaves nothing of it
 pub failed : {A B D : Type 0} → (v : A → B) (r : Result A RatesFail) (e : RatesFail) (x : Option B) (o : Option D) → IsErrAnd r (λ f. f ≡ e) → Reads {A = D} (λ y. y) (Err e) o → (o ≡ None → x ≡ None) → Reads v r x
 failed v (Ok a) e x o err reads none = absurd err
 failed v (Err f) fail.Form x o err reads none = rw err (none reads)

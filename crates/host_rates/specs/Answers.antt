@@ -25,7 +25,7 @@ rates_or no_toml no_form text = answer_of no_toml no_form (document text)
 abbrev pub answer : List ℕ → Result RateTable RatesFail
 answer text = if nat_lt 65536 (length text) then Err (fail.Length (length text)) else rates_or fail.Toml fail.Form text
 
--- this is the answer, or memory was wanting
+-- this is the answer, or memory ran out
 abbrev pub UnlessMemory : {A : Type 0} → Result A RatesFail → Result A RatesFail → Type 0
 UnlessMemory (Err (fail.Memory _)) x = Unit {0}
 UnlessMemory r x = r ≡ x

@@ -58,14 +58,14 @@ pub record IsStep (zones : ℕ) (s : StepTable) : Type 0 where
   pub each_zone : length s.mills ≡ zones
   pub prices : All IsPrice s.mills
 
--- a number, and steps of which each is for more grams than those before it
+-- a number, and steps, each for more grams than those before it
 pub record IsClass (zones : ℕ) (c : ClassTable) : Type 0 where
   pub number : (1 ≤ c.number) × (c.number ≤ 65535)
   pub few : (1 ≤ length c.steps) × (length c.steps ≤ 64)
   pub steps : All (IsStep zones) c.steps
   pub rising : AllPairs (λ s t. s.grams < t.grams) c.steps
 
--- zones, and classes of which no two have one number
+-- zones, and classes with different numbers
 pub record IsRates (r : RateTable) : Type 0 where
   pub zoned : (1 ≤ r.zones) × (r.zones ≤ 9)
   pub few : (1 ≤ length r.classes) × (length r.classes ≤ 64)

@@ -1,7 +1,6 @@
 -- The tariff of TOML texts: what a text of rates reads as, and the price that it gives.
 use Rattle.std.specs.Prelude.{ℕ, List, length, Option, Some, None, Result, Ok, Err, ⊤}
-use Rattle.bench_base.specs.declared.refusals.RateRefusal.{RateRefusal}
-use Rattle.bench_base.specs.declared.refusals.RateRefusal.TheVariants.{NoClass}
+use Rattle.bench_base.specs.declared.{refusals.RateRefusal.RateRefusal, refusals.RateRefusal.TheVariants.NoClass}
 use Rattle.host_rates.specs.Tables.{RateTable, price_in}
 use Rattle.host_rates.specs.Reading.{rates_of}
 use Rattle.host_rates.specs.Answers.{AreRatesOf, rates_or}

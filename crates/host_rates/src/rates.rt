@@ -148,8 +148,8 @@ impl Rates {
     }
 
     /// The price in mills, from 1 to 100,000, of a piece of this class and this weight in grams in this zone: that of the
-    /// class's first step whose grams are at least the weight. `NoClass` if and only if no class has the number; then
-    /// `NoZone` with the number of zones if and only if the zone is 0 or above it; then `TooHeavy` with the grams of the
+    /// class's first step whose grams are at least the weight. `NoClass` if and only if no class has the number. Otherwise
+    /// `NoZone` with the number of zones if and only if the zone is 0 or above it. Otherwise `TooHeavy` with the grams of the
     /// class's last step if and only if the weight is above them.
     pub fn price(&self, class: u16, grams: u32, zone: u32) -> Result<u32, RateRefusal>
         ensures exact { result ≡ price_in class grams zone self.now }

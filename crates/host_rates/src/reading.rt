@@ -194,9 +194,9 @@ fn rates(alloc: Global, table: &Table) -> Result<Rates, RatesFail>
 
 /// The rates of a text in TOML.
 ///
-/// `Length` if and only if it has more than 65,536 bytes, with their number; `Toml` if and only if it is then no UTF-8 or no
-/// document; `Form` if and only if the document is no rate file. `Memory` may come in place of `Toml`, `Form` and the
-/// rates, and is lack of memory.
+/// `Length` if and only if it has more than 65,536 bytes, with their number. Otherwise `Toml` if and only if it is no UTF-8 or
+/// no document. Otherwise `Form` if and only if the document is no rate file. `Memory` may be returned in place of `Toml`,
+/// `Form` and the rates, and means that memory ran out.
 pub fn read_rates(alloc: Global, text: &[u8]) -> Result<Rates, RatesFail>
     ensures exact { UnlessMemory result (answer text.now) }
     ensures long { 65536 < length text.now → result ≡ Err (Length (length text.now)) }

@@ -9,8 +9,7 @@ use Rattle.bench_base.proofs.Tables.{row_values, values_row, values_fit, length_
 use Rattle.hmac_core.specs.Hmac.{hmac}
 use Rattle.hmac_core.proofs.Codes.{length_hmac}
 use Rattle.indicium.specs.declared.Mark.{Mark}
-use Rattle.bench_base.specs.declared.refusals.MarkFault.{MarkFault}
-use Rattle.bench_base.specs.declared.refusals.MarkFault.TheVariants.{Length, Version, Algorithm}
+use Rattle.bench_base.specs.declared.{refusals.MarkFault.MarkFault, refusals.MarkFault.TheVariants.Length, refusals.MarkFault.TheVariants.Version, refusals.MarkFault.TheVariants.Algorithm}
 use Rattle.bench_base.proofs.Facts.{read_sfits, ok_same, known, known_is}
 use Rattle.indicium.specs.Marks.{mark_fields, mark_table, mark_values, mark_from, body, spell, IsWhole, mark_at, read_mark, ReadsAs, IsSpelled}
 

@@ -5,8 +5,7 @@ use Rattle.hmac_core.specs.Hmac.{hmac}
 use Rattle.bench_base.specs.Table.{Size, One, Two, Four, Five, row, values, Fit}
 use Rattle.bench_base.specs.Rules.{is_version, IsVersion}
 use Rattle.indicium.specs.declared.Mark.{Mark}
-use Rattle.bench_base.specs.declared.refusals.MarkFault.{MarkFault}
-use Rattle.bench_base.specs.declared.refusals.MarkFault.TheVariants.{Length, Version, Algorithm}
+use Rattle.bench_base.specs.declared.{refusals.MarkFault.MarkFault, refusals.MarkFault.TheVariants.Length, refusals.MarkFault.TheVariants.Version, refusals.MarkFault.TheVariants.Algorithm}
 
 -- device, piece, postage, ascending, descending, day, origin, class; version 2 has wider registers and a narrower device
 abbrev pub mark_fields : ℕ → List Size
@@ -64,7 +63,7 @@ read_mark bytes =
     else Err (Version (get_or bytes 0 0)))
     else Err (Length (length bytes))
 
--- the bytes read as this mark, with this code behind it
+-- the bytes read as this mark, with this code after it
 pub record ReadsAs (bytes : List ℕ) (mark : Mark) (code : List ℕ) : Type 0 where
   pub whole : IsWhole mark
   pub spelled : bytes ≡ body mark ++ code

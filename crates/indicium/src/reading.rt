@@ -15,10 +15,11 @@ use hmac_core::ReadyKey;
 /// The bytes of an indicium.
 const LENGTH: usize = 64;
 
-/// The mark that the bytes spell and the code behind it, which is not checked.
+/// The mark that the bytes spell and the code after it, which is not checked. The first fault is answered:
 ///
-/// The first fault is answered: `Length` where there are not 64 bytes, `Version` where byte 0 is
-/// neither 1 nor 2, `Algorithm` where byte 1 is not 1.
+/// 1. `Length` if there are not 64 bytes.
+/// 2. `Version` if byte 0 is neither 1 nor 2.
+/// 3. `Algorithm` if byte 1 is not 1.
 pub fn read_indicium(bytes: &[u8]) -> Result<(Mark, [u8; 32]), MarkFault>
     ensures exact { result ≡ read_mark bytes.now }
     ensures found { IfOk result (λ (mark, code). ReadsAs bytes.now mark code) }
@@ -52,7 +53,7 @@ fn fields_and_code(bytes: &[u8]) -> Result<(Mark, [u8; 32]), MarkFault>
     Ok((mark, code))
 }
 
-// The fields of a mark, whose bytes come first.
+// The fields of a mark, which come first in its bytes.
 fn mark_of(bytes: &[u8]) -> Mark
     requires long { 32 ≤ length bytes.now }
     requires version { IsVersion (slice_index bytes.now 0) }

@@ -78,7 +78,7 @@ pub fn code_by(mark: &Mark, key: &ReadyKey) -> [u8; 32]
     key.code(&body_of(mark))
 }
 
-/// The mark's fields and a code behind them, which was made or checked before. The mark is as for `write_indicium`.
+/// The mark's fields, and after them a code that was made or checked before. The mark is as for `write_indicium`.
 pub fn write_coded(mark: &Mark, code: &[u8; 32]) -> [u8; 64]
     requires { IsWhole mark.now }
     ensures { result ≡ body mark.now ++ code.now }
@@ -92,8 +92,8 @@ pub fn write_coded(mark: &Mark, code: &[u8; 32]) -> [u8; 64]
 
 /// The one spelling of the mark under the key: its fields, and the code of those 32 bytes.
 ///
-/// The mark's version is 1 or 2, and its numbers fit their fields: in version 1 the registers are below 2^32; in
-/// version 2 they are below 2^40, and the device is below 2^16.
+/// The mark's version is 1 or 2, and its numbers fit their fields. In version 1 the registers are below 2^32. In version 2
+/// they are below 2^40, and the device is below 2^16.
 #[tactic(auto, unfolding(crate::specs::Marks::spell))]
 pub fn write_indicium(mark: &Mark, key: &Key) -> [u8; 64]
     requires { IsWhole mark.now }

@@ -1,8 +1,6 @@
 -- A commit of another node changes nothing of this one.
 use Rattle.std.proofs.Common.{◌≡◌, ℕ, false, List, ◌∷◌, refl, true≢false}
-use Rattle.bench_base.specs.declared.words.Node.TheVariants.{Device, Centre, Host, Verifier}
-use Rattle.bench_base.specs.declared.ledger.Commit.{Commit}
-use Rattle.bench_base.specs.declared.ledger.Commit.TheVariants.{Made, Asked, Applied, Debited, Registered, Opened, Deposited, Flagged, Ruled, Settled, Ordered, Held, Began, Closed, Trusted, Accepted}
+use Rattle.bench_base.specs.declared.{words.Node.TheVariants.Device, words.Node.TheVariants.Centre, words.Node.TheVariants.Host, words.Node.TheVariants.Verifier, ledger.Commit.Commit, ledger.Commit.TheVariants.Made, ledger.Commit.TheVariants.Asked, ledger.Commit.TheVariants.Applied, ledger.Commit.TheVariants.Debited, ledger.Commit.TheVariants.Registered, ledger.Commit.TheVariants.Opened, ledger.Commit.TheVariants.Deposited, ledger.Commit.TheVariants.Flagged, ledger.Commit.TheVariants.Ruled, ledger.Commit.TheVariants.Settled, ledger.Commit.TheVariants.Ordered, ledger.Commit.TheVariants.Held, ledger.Commit.TheVariants.Began, ledger.Commit.TheVariants.Closed, ledger.Commit.TheVariants.Trusted, ledger.Commit.TheVariants.Accepted}
 use Rattle.bench_base.specs.Nodes.{same_node, node_of}
 use Rattle.bench_base.specs.Jobs.{last_job, job_of, held_of, state_of, begun, open_job, top}
 use Rattle.bench_base.specs.Scans.{trusted, accepted, blocks}

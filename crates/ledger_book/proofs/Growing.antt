@@ -1,14 +1,11 @@
 -- How the counted commits grow with a ledger.
 use Rattle.std.proofs.Common.{◌≡◌, ℕ, ◌+◌, Bool, true, false, cond, eqb, List, [], ◌∷◌, Option, Some, None, refl}
-use Rattle.bench_base.specs.declared.words.Node.{Node}
-use Rattle.bench_base.specs.declared.ledger.Commit.{Commit}
-use Rattle.bench_base.specs.declared.ledger.Entry.{Entry}
-use Rattle.bench_base.specs.declared.ledger.Entry.TheVariants.{Commit as Counts, Up}
+use Rattle.bench_base.specs.declared.{words.Node.Node, ledger.Commit.Commit, ledger.Entry.Entry, ledger.Entry.TheVariants.Commit as Counts, ledger.Entry.TheVariants.Up}
 use Rattle.bench_base.specs.Ledger.{Ledger, counted, count_of, torn_of, at_up}
 use Rattle.ledger_book.specs.Growth.{newest, grown, settled_by}
 use Rattle.ledger_terms.specs.Lawful.{Always}
 
--- one more entry adds the commit that counts by it, and nothing else
+-- one more entry adds only the commit that counts by it
 at_up_grown : (o : Option Commit) (n : Node) (k : ℕ) (C : List Commit) → at_up o n k C ≡ grown (settled_by o n k C) C
 at_up_grown None n k C = refl
 at_up_grown (Some c) n k C = go (eqb k (count_of n C + 1))

@@ -9,8 +9,7 @@ use Rattle.indicium.specs.declared.Mark.{Mark}
 use Rattle.bench_base.specs.Table.{One, Two, Four, Fit, row, spelled}
 use Rattle.indicium.specs.Marks.{IsWhole, spell, body, mark_fields}
 use Rattle.ledger_book.specs.Carried.{carried, carried_sum}
-use Rattle.bench_base.specs.declared.ledger.Commit.{Commit}
-use Rattle.bench_base.specs.declared.ledger.Commit.TheVariants.{Debited}
+use Rattle.bench_base.specs.declared.{ledger.Commit.Commit, ledger.Commit.TheVariants.Debited}
 use Rattle.bench_base.specs.Rules.{todays_rules, IsVersion}
 use Rattle.ledger_terms.specs.Sums.{ascending, descending}
 use Rattle.ledger_terms.specs.Lawful.{Debits}

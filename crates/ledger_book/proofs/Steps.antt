@@ -1,9 +1,7 @@
 -- What one more commit does to the node that made it.
 use Rattle.std.proofs.Common.{◌≡◌, ℕ, ℤ, true, false, List, ◌∷◌, refl, eqb}
 use Rattle.std.proofs.lemmas.Bool.{eq-eqb}
-use Rattle.bench_base.specs.declared.words.Verdict.{Verdict}
-use Rattle.bench_base.specs.declared.ledger.Commit.{Commit}
-use Rattle.bench_base.specs.declared.ledger.Commit.TheVariants.{Made, Asked, Applied, Debited, Registered, Ruled, Settled}
+use Rattle.bench_base.specs.declared.{words.Verdict.Verdict, ledger.Commit.Commit, ledger.Commit.TheVariants.Made, ledger.Commit.TheVariants.Asked, ledger.Commit.TheVariants.Applied, ledger.Commit.TheVariants.Debited, ledger.Commit.TheVariants.Registered, ledger.Commit.TheVariants.Ruled, ledger.Commit.TheVariants.Settled}
 use Rattle.ledger_terms.specs.Requests.{request_of}
 use Rattle.ledger_book.specs.Views.{of_device, device_made, device_asked, device_applied, device_debited, of_centre, centre_registered, centre_ruled, centre_settled}
 

@@ -1,8 +1,6 @@
 -- What the newest entry adds to the commits that count.
 use Rattle.std.specs.Prelude.{ℕ, ◌+◌, List, ◌∷◌, Option, Some, None, ◌==◌, if◌then◌else◌}
-use Rattle.bench_base.specs.declared.words.Node.{Node}
-use Rattle.bench_base.specs.declared.ledger.Commit.{Commit}
-use Rattle.bench_base.specs.declared.ledger.Entry.TheVariants.{Commit as Counts, Up}
+use Rattle.bench_base.specs.declared.{words.Node.Node, ledger.Commit.Commit, ledger.Entry.TheVariants.Commit as Counts, ledger.Entry.TheVariants.Up}
 use Rattle.bench_base.specs.Ledger.{Ledger, counted, count_of, torn_of}
 
 -- the open commit, where an Up with this count makes it count

@@ -1,8 +1,6 @@
--- What the commits tell of one device, of the centre's record of a device, and of a customer, each as one value.
+-- What the commits record of one device, of the centre's record of a device, and of a customer, each as one value.
 use Rattle.std.specs.Prelude.{ℕ, ℤ, pos, ◌+◌, ◌+ℤ◌, Bool, true, ◌&&◌, ◌||◌, List, Option, Some, max, if◌then◌else◌}
-use Rattle.bench_base.specs.declared.words.Kind.TheVariants.{Enrol, Audit, Withdraw}
-use Rattle.bench_base.specs.declared.words.Verdict.{Verdict}
-use Rattle.bench_base.specs.declared.ledger.Commit.{Commit}
+use Rattle.bench_base.specs.declared.{words.Kind.TheVariants.Enrol, words.Kind.TheVariants.Audit, words.Kind.TheVariants.Withdraw, words.Verdict.Verdict, ledger.Commit.Commit}
 use Rattle.bench_base.specs.Kinds.{same_kind, is_granted, is_dated}
 use Rattle.bench_base.specs.Rows.{first_of}
 use Rattle.psd_wire.specs.declared.message.Request.{Request}
@@ -41,7 +39,7 @@ sums_of d C = record { loaded = loaded d C; refunded = refunded d C; ascending =
 abbrev pub kinds_of : ℕ → List Commit → AppliedKinds
 kinds_of d C = record { enrolled = applied_kind Enrol d C; inspected = applied_kind Audit d C; withdrawn = applied_kind Withdraw d C }
 
--- all that a device's commits tell of it, except for the marks
+-- all that a device's commits record of it, except for the marks
 abbrev pub of_device : ℕ → List Commit → OfDevice
 of_device d C = record {
   key = key_of d C;
@@ -98,7 +96,7 @@ pub record OfCentre : Type 0 where
   pub bought : ℕ
   pub returned : ℕ
 
--- all that the centre's commits tell of a device, except for the stored Reply
+-- all that the centre's commits record of a device, except for the stored Reply
 abbrev pub of_centre : ℕ → List Commit → OfCentre
 of_centre d C = record {
   registered = registered d C;

@@ -189,7 +189,8 @@ pub(crate) fn customer_sum(commits: &[Commit], customer: Customer, side: Side) -
         + device_share(commits, customer, side, 8)
 }
 
-/// The balance of the customer over the commits, the oldest first: deposits less buys plus returns, over all devices ever enrolled under it. Below 0 where buys are more.
+/// The balance of the customer over the commits, the oldest first: deposits less buys plus returns, over all devices ever enrolled under
+/// it. Below 0 where buys are more.
 pub fn balance_in(commits: &[Commit], customer: Customer) -> i128
     ensures { result ≡ whole_balance customer (reverse commits.now) }
 {

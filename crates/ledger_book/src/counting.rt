@@ -63,7 +63,8 @@ fn newest(entry: &Entry, before: &[Entry], commits: &[Commit]) -> Option<Commit>
     }
 }
 
-/// The commits that count, the oldest first as the entries are. A torn commit counts at the next Up of its node if and only if that Up shows one commit more than the node has so far.
+/// The commits that count, the oldest first as the entries are. A torn commit counts at the next Up of its node if and only if that Up
+/// shows one commit more than the node has so far.
 pub fn counted(alloc: Global, book: &[Entry]) -> Result<Vec<Commit>, AllocError>
     ensures { IfOk result (λ commits. reverse commits.items ≡ counted (reverse book.now)) }
 {

@@ -168,7 +168,7 @@ fn deadline_after(commit: &Commit, before: &[Commit], device: DevNo, earlier: i3
     }
 }
 
-/// The deadline, a day; 0 where there is none.
+/// The deadline, a day; 0 if there is no deadline.
 pub(crate) fn deadline(commits: &[Commit], device: DevNo) -> i32
     ensures { result ≡ deadline device (reverse commits.now) }
 {
@@ -194,7 +194,7 @@ fn last_day_after(commit: &Commit, device: DevNo, earlier: i32) -> i32
     }
 }
 
-/// The day of the last Debited or Asked; 0 where there is none.
+/// The day of the last Debited or Asked; 0 before the first.
 pub(crate) fn last_day(commits: &[Commit], device: DevNo) -> i32
     ensures { result ≡ last_day device (reverse commits.now) }
 {

@@ -53,7 +53,7 @@ fn acknowledged_in(commit: &Commit, device: DevNo, side: Side, limit: u32) -> u6
     }
 }
 
-/// The sum of that side over the rulings on the device whose number is at most the limit.
+/// The sum of that side over the rulings on the device with numbers up to the limit.
 pub(crate) fn ruled_sum_to(commits: &[Commit], device: DevNo, side: Side, limit: u32) -> u128
     ensures value { result ≡ ruled_sum_to (amount_of side) device limit (reverse commits.now) }
     ensures small { result ≤ length commits.now * 2 ^ 64 }

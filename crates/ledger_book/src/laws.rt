@@ -1,10 +1,7 @@
 //! Laws of the definitions. Each function does nothing: its contract is the law.
 ghost use Rattle.std.specs.Prelude.{◌≡◌, ◌↔◌, ◌+◌, ◌-◌, ◌≤◌, ◌+ℤ◌, ◌-ℤ◌, ◌==◌, ℕ, ℤ, pos, false, List, ◌∷◌, sum};
-ghost use Rattle.bench_base.specs.declared.words.Verdict.{Verdict};
-ghost use Rattle.bench_base.specs.declared.words.Node.TheVariants.{Device, Centre, Host, Verifier};
-ghost use Rattle.bench_base.specs.declared.ledger.Commit.{Commit};
+ghost use Rattle.bench_base.specs.declared.{words.Verdict.Verdict, words.Node.TheVariants.Device, words.Node.TheVariants.Centre, words.Node.TheVariants.Host, words.Node.TheVariants.Verifier, ledger.Commit.Commit, ledger.Entry.Entry};
 ghost use Rattle.bench_base.specs.declared.ledger.Commit.TheVariants as c;
-ghost use Rattle.bench_base.specs.declared.ledger.Entry.{Entry};
 ghost use Rattle.bench_base.specs.Nodes.{same_node, node_of};
 ghost use Rattle.bench_base.specs.Ledger.{Ledger, counted};
 ghost use Rattle.bench_base.specs.Jobs.{last_job, job_of, held_of, state_of, begun, open_job, top};
@@ -15,7 +12,7 @@ ghost use Rattle.ledger_terms.specs.Centres.{deposits, customer_bought, customer
 ghost use Rattle.ledger_book.specs.Growth.{newest, grown};
 ghost use Rattle.ledger_book.specs.Views.{of_device, device_made, device_asked, device_applied, device_debited, of_centre, centre_registered, centre_ruled, centre_settled, of_customer};
 
-/// One more entry adds the commit that counts by it, and nothing else.
+/// One more entry adds only the commit that counts by it.
 pub fn growth()
     ensures { (x : Entry) (H : Ledger) → counted (x ∷ H) ≡ grown (newest (x ∷ H)) (counted H) }
 {}
@@ -64,7 +61,8 @@ pub fn centre_steps()
         → of_centre d (c.Settled e n ∷ C) ≡ of_centre d C }
 {}
 
-/// The sums are those of the lists of amounts. Where no more was spent and refunded than loaded, and no more bought than deposited and returned, natural numbers cut nothing off, and the account of the registers reads the same in whole numbers.
+/// The sums are those of the lists of amounts. If no more was spent and refunded than loaded, and no more bought than deposited and
+/// returned, subtraction in natural numbers cuts nothing off, and the account of the registers is the same in the integers.
 pub fn sums_of_lists()
     ensures bought { (d : ℕ) (C : List Commit) → bought d C ≡ sum (buys d C) }
     ensures returned { (d : ℕ) (C : List Commit) → returned d C ≡ sum (returns d C) }

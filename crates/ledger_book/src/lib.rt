@@ -1,4 +1,4 @@
-//! The slow book: what the definitions say of a ledger, computed by plain filters and sums over slices whose oldest element comes first.
+//! The reference implementation: what the definitions say of a ledger, by plain filters and sums over slices, the oldest element first.
 #![tactic(auto)]
 
 mod centres;

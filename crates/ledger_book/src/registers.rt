@@ -1,5 +1,5 @@
-//! What the commits tell of a device's registers.
-/// The registers of a device as the commits tell them, in mills, and its debits.
+//! What the commits record of a device's registers.
+/// The registers of a device as the commits record them, in mills, and its debits.
 #[derive(Clone, Copy, Debug, PartialEq, Eq)]
 pub struct Sums {
     /// What was spent.

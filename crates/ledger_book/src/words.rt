@@ -1,4 +1,4 @@
-//! Kinds and verdicts told apart.
+//! Tests that distinguish kinds and verdicts.
 ghost use Rattle.std.specs.Prelude.{◌≡◌};
 ghost use Rattle.bench_base.specs.Kinds.{same_kind, empties, is_granted, is_dated};
 ghost use Rattle.bench_base.specs.Nodes.{same_node, node_of};

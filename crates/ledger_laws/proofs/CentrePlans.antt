@@ -1,22 +1,15 @@
 -- The centre's part of a plan is right: a Request that it rules on was asked and not ruled before, and shows what the centre
 -- holds; what it settles was applied; and it never answers `ahead` or `changed`.
 use Rattle.std.proofs.Common.{◌≡◌, ℕ, pos, ◌+◌, ◌<◌, ◌≤◌, ◌+ℤ◌, Bool, true, false, List, [], ◌∷◌, Option, Some, None, Result, Ok, Err, cond, refl, sym, ap, subst, ◌∙◌, true≢false, arith, FitsSigned, rules}
-use Rattle.std.specs.Prelude.{◌==◌, ◌&&◌, ◌||◌, nat_lt, nat_le, bytes_eq, option_map, if◌then◌else◌}
+use Rattle.std.specs.Prelude.{◌==◌, ◌&&◌, ◌||◌, nat_lt, nat_le, bytes_eq, option_map, if◌then◌else◌, min}
 use Rattle.std.specs.Int.{w32}
 use Rattle.std.proofs.lemmas.Bool.{eqb-true, eqb-false, ltb-false, ltb-true, leb-false, eq-eqb, and_parts, or_parts}
 use Rattle.std.proofs.lemmas.Slice.Eq.{bytes_eq-Decides}
-use Rattle.bench_base.specs.declared.words.Node.TheVariants.{Centre}
-use Rattle.bench_base.specs.declared.words.Kind.TheVariants.{Reset}
-use Rattle.bench_base.specs.declared.words.Verdict.{Verdict}
-use Rattle.bench_base.specs.declared.words.Verdict.TheVariants.{Granted}
-use Rattle.bench_base.specs.declared.refusals.Unread.{Unread}
+use Rattle.bench_base.specs.declared.{words.Node.TheVariants.Centre, words.Kind.TheVariants.Reset, words.Verdict.Verdict, words.Verdict.TheVariants.Granted, refusals.Unread.Unread, refusals.CentreRefusal.CentreRefusal, ledger.Commit.Commit, events.Reply.Reply}
 use Rattle.bench_base.specs.declared.refusals.Unread.TheVariants as unread
-use Rattle.bench_base.specs.declared.refusals.CentreRefusal.{CentreRefusal}
 use Rattle.bench_base.specs.declared.refusals.CentreRefusal.TheVariants as no
-use Rattle.bench_base.specs.declared.ledger.Commit.{Commit}
 use Rattle.bench_base.specs.declared.ledger.Commit.TheVariants as c
 use Rattle.bench_base.specs.declared.ledger.Entry.TheVariants as e
-use Rattle.bench_base.specs.declared.events.Reply.{Reply}
 use Rattle.bench_base.specs.declared.events.Reply.TheVariants as r
 use Rattle.bench_base.specs.Rules.{Rules}
 use Rattle.bench_base.specs.Plans.{refuse, made, told}
@@ -26,12 +19,9 @@ use Rattle.bench_base.specs.Ledger.{Ledger, counted, is_on, IsSent}
 use Rattle.node_acts.specs.declared.said.Said.{Said}
 use Rattle.node_acts.specs.Plans.{after}
 use Rattle.node_acts.specs.Said.{said_plan}
-use Rattle.psd_wire.specs.declared.message.Request.{Request}
-use Rattle.psd_wire.specs.declared.message.ReplyMsg.{ReplyMsg}
-use Rattle.psd_wire.specs.declared.message.DoneMsg.{DoneMsg}
-use Rattle.psd_wire.specs.declared.message.Message.{Message}
+use Rattle.psd_wire.specs.declared.{message.Request.Request, message.ReplyMsg.ReplyMsg, message.DoneMsg.DoneMsg, message.Message.Message}
 use Rattle.psd_wire.specs.declared.message.Message.TheVariants as m
-use Rattle.psd_wire.specs.Grammar.{read, IsWhole}
+use Rattle.psd_wire.specs.Grammar.{read, IsWhole, sum_size}
 use Rattle.psd_wire.proofs.Readings.{read_spell}
 use Rattle.psd_wire.specs.Codes.{has_code}
 use Rattle.ledger_terms.specs.Requests.{request_in, request_or_none, note_of}
@@ -39,10 +29,8 @@ use Rattle.ledger_terms.specs.Sums.{bought, returned}
 use Rattle.ledger_terms.specs.Devices.{applied_of}
 use Rattle.ledger_terms.specs.Centres.{registered, key_in, ruled, settled, opened, receipt, deposits, balance}
 use Rattle.ledger_terms.specs.InFlight.{ruling_of}
-use Rattle.ledger_terms.specs.Rulings.{verdict, verdict_by, verdict_rows, account_of, Account, reply_to, reply_note, stored_reply, ruled_reply}
-use Rattle.centre_ledger.specs.declared.rows.DeviceRow.{DeviceRow}
-use Rattle.centre_ledger.specs.declared.rows.CustomerRow.{CustomerRow}
-use Rattle.centre_ledger.specs.declared.taking.CentreAnswer.{CentreAnswer}
+use Rattle.ledger_terms.specs.Rulings.{verdict, verdict_by, verdict_rows, account_of, Account, reply_to, reply_note, stored_reply, ruled_reply, written_amount}
+use Rattle.centre_ledger.specs.declared.{rows.DeviceRow.DeviceRow, rows.CustomerRow.CustomerRow, taking.CentreAnswer.CentreAnswer}
 use Rattle.centre_ledger.specs.Acts.{CentreAct, registered_act, opened_act, flagged_act, taken_act, deposited_act, left_act, stood_act, repeated_act, turn_act, request_act, settled_act, done_act, message_act}
 use Rattle.centre_ledger.specs.Answers.{deposit_rows, deposit_answer, turn_answer, settle_answer}
 use Rattle.centre_ledger.specs.Plans as centre
@@ -54,13 +42,10 @@ use Rattle.centre_ledger.proofs.Passed.{may_deposit, granted_amount}
 use Rattle.ledger_moves.specs.Histories.{IsKnown}
 use Rattle.ledger_terms.specs.Sane.{IsSane, IsSaneCentre, is_imbalance}
 use Rattle.bench_base.proofs.Rows.{chosen, first_that}
-use Rattle.std.specs.Prelude.{min}
 use Rattle.std.proofs.Math.Nat.{min-le_right, min-eq_left}
 use Rattle.std.proofs.lemmas.Option.{same_Some, none-some}
 use Rattle.bench_base.specs.Table.{Four, Eight, IsNumber}
 use Rattle.bench_base.proofs.Facts.{some_none, either}
-use Rattle.psd_wire.specs.Grammar.{sum_size}
-use Rattle.ledger_terms.specs.Rulings.{written_amount}
 use Rattle.ledger_laws.proofs.Whole.{whole_reply, deadline_signed, no_deadline}
 use Rattle.ledger_laws.proofs.Good.{Good}
 use Rattle.ledger_laws.proofs.Links.{link, note_le, applied_le}
@@ -163,14 +148,14 @@ module _ (ρ : Rules) (H : Ledger) (i : Inv ρ H) (on : is_on Centre H ≡ true)
   abbrev C : List Commit
   C = counted H
 
-  -- the plan of an act of the centre that is told so
+  -- the plan of an act of the centre that is reported so
   abbrev OkTold : {A : Type 0} → (A → Said) → CentreAct A → Type 0
   OkTold say act = PlanOk ρ H (said_plan (centre.says say act))
 
   no_ok : (x : CentreRefusal) → IsSaneCentre x → PlanOk ρ H (refuse (r.CentreRefused x))
   no_ok x s = ok_refuse ρ H (r.CentreRefused x) refl s
 
-  -- what is only told
+  -- what is only reported
   told_ok : (x : Reply) → IsSane x → after (told x []) x H ≡ H → PlanOk ρ H (told x [])
   told_ok x s plain = record { sane = s; plain = plain; no_up = λ l k h. refl; fit = λ y h. absurd (none-some _ h); keeps = λ j. j }
 

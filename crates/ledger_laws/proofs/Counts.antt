@@ -7,10 +7,7 @@ use Rattle.std.proofs.lemmas.List.Sums.{sum_by-cons, sum_by-append}
 use Rattle.std.proofs.lemmas.List.Elements.{All-head, All-tail, All-cons, All-append, All-map, All-weaker, All-contains, Contains-append_left, Contains-append_right, Contains-append_cases}
 use Rattle.std.proofs.lemmas.List.FromFn.{length-range_with_len, get_or-range_with_len, length-map-range_with_len, get_or-map-range_with_len}
 use Rattle.std.proofs.Math.Nat.{mod-lt}
-use Rattle.bench_base.specs.declared.words.Node.{Node}
-use Rattle.bench_base.specs.declared.words.Node.TheVariants.{Device, Centre, Host, Verifier}
-use Rattle.bench_base.specs.declared.ledger.Commit.{Commit}
-use Rattle.bench_base.specs.declared.ledger.Commit.TheVariants.{Made, Asked, Applied, Debited, Registered, Opened, Deposited, Flagged, Ruled, Settled, Ordered, Held, Began, Closed, Trusted, Accepted}
+use Rattle.bench_base.specs.declared.{words.Node.Node, words.Node.TheVariants.Device, words.Node.TheVariants.Centre, words.Node.TheVariants.Host, words.Node.TheVariants.Verifier, ledger.Commit.Commit, ledger.Commit.TheVariants.Made, ledger.Commit.TheVariants.Asked, ledger.Commit.TheVariants.Applied, ledger.Commit.TheVariants.Debited, ledger.Commit.TheVariants.Registered, ledger.Commit.TheVariants.Opened, ledger.Commit.TheVariants.Deposited, ledger.Commit.TheVariants.Flagged, ledger.Commit.TheVariants.Ruled, ledger.Commit.TheVariants.Settled, ledger.Commit.TheVariants.Ordered, ledger.Commit.TheVariants.Held, ledger.Commit.TheVariants.Began, ledger.Commit.TheVariants.Closed, ledger.Commit.TheVariants.Trusted, ledger.Commit.TheVariants.Accepted}
 use Rattle.bench_base.specs.Nodes.{node_of, same_node}
 use Rattle.bench_base.specs.Cells.{Place, OfDevice, OfRow, OfCustomer, OfJob, OfTrust, OfBlock, same_place, place_of, commits_at}
 use Rattle.bench_base.specs.Jobs.{cell_of}
@@ -57,7 +54,7 @@ none_lies (p ∷ places) =
     let rest = none_lies places in
     omega (arith, step, rest)
 
--- one commit more lies where its place stands in the list
+-- one commit more adds one for each occurrence of its place in the list
 one_more : (c : Commit) (C : List Commit) (places : List Place) → commits_in places (c ∷ C) ≡ commits_in places C + count_by (same_place (place_of c)) places
 one_more c C [] = refl
 one_more c C (p ∷ places) =
@@ -148,7 +145,7 @@ module _ (n : Node) (f : ℕ → Place) (run : IsRun n f) where
     get_or-map-range_with_len f a k (i - a) i (f i) (omega arith) (omega arith),
   )
 
--- places that are none of the run
+-- a place that is not in the run
 apart_run : (x : Place) (f : ℕ → Place) (a k : ℕ) → ((i : ℕ) → same_place x (f i) ≡ false) → count_by (same_place x) (map f (range_with_len a k)) ≡ 0
 apart_run x f a zero apart = refl
 apart_run x f a (suc k) apart =
@@ -244,7 +241,7 @@ centre_holds C ranges = record {
 
 -- == the verifier's blocks ==
 
--- how often a block stands in a list
+-- how often a block occurs in a list
 times : ℕ → ℕ → List (ℕ × ℕ) → ℕ
 times d b xs = count_by (same_place (OfBlock d b)) (map block_cell xs)
 
@@ -291,7 +288,7 @@ placed d b k (x ∷ xs) h = ⊎_elim
 abbrev Once : List (ℕ × ℕ) → Type 0
 Once xs = All (λ x. times x.0 x.1 xs ≡ 1) xs
 
--- a block that is there once is none that isn't there
+-- a block that is there once differs from one that isn't there
 other_block : (d b : ℕ) (x : ℕ × ℕ) (xs : List (ℕ × ℕ)) → times d b xs ≡ 0 → times x.0 x.1 xs ≡ 1 → times x.0 x.1 ((d, b) ∷ xs) ≡ 1
 other_block d b x xs none one = ⊎_elim
     (λ (t : ((x.0 == d) && (x.1 == b)) ≡ true).

@@ -1,15 +1,12 @@
 -- A customer's balance is never below 0. A granted reset is within the balance of the customer under which the device is
--- enrolled; a ruling changes the sums of one device alone; and a device that isn't enrolled has no buys, so its enrolment
--- brings none to its customer.
+-- enrolled. A ruling changes the sums of one device alone. A device that isn't enrolled has no buys, so its enrolment adds
+-- none to its customer.
 
 use Rattle.std.proofs.Common.{◌≡◌, ℕ, ◌+◌, ◌-◌, ◌<◌, ◌≤◌, Bool, true, false, List, [], ◌∷◌, Option, Some, None, cond, ⊎_elim, refl, sym, ap, subst, ◌∙◌, true≢false, arith}
 use Rattle.std.specs.Prelude.{◌==◌, ◌&&◌}
 use Rattle.std.proofs.lemmas.Bool.{eqb-true, cases_Bool, eq-eqb, and_parts}
 use Rattle.std.proofs.lemmas.Option.{same_Some, none-some}
-use Rattle.bench_base.specs.declared.words.Kind.TheVariants.{Enrol, Reset}
-use Rattle.bench_base.specs.declared.words.Verdict.{Verdict}
-use Rattle.bench_base.specs.declared.ledger.Commit.{Commit}
-use Rattle.bench_base.specs.declared.ledger.Commit.TheVariants.{Deposited, Ruled}
+use Rattle.bench_base.specs.declared.{words.Kind.TheVariants.Enrol, words.Kind.TheVariants.Reset, words.Verdict.Verdict, ledger.Commit.Commit, ledger.Commit.TheVariants.Deposited, ledger.Commit.TheVariants.Ruled}
 use Rattle.bench_base.specs.Rules.{Rules}
 use Rattle.bench_base.specs.Rows.{first_of}
 use Rattle.bench_base.specs.Kinds.{same_kind, is_granted}
@@ -124,7 +121,7 @@ takes_plain None t w c b a = omega arith
 takes_plain (Some x) true w c b a = more (x == c) b a
 takes_plain (Some x) false w c b a = more (x == c) b a
 
--- what a granted ruling that fits tells
+-- what a granted ruling that fits implies
 module _ (ρ : Rules) (f n : ℕ) (v : Verdict) (r : List ℕ) (C : List Commit) (g : Good ρ (Ruled f n v r ∷ C)) where
   device_is : (request_in r).device ≡ f
   device_is = (note_reads ρ f n r C g.1 g.0.asked_as).device

@@ -3,14 +3,8 @@ use Rattle.std.proofs.Common.{◌≡◌, ℕ, ℤ, ◌+◌, ◌<◌, ◌≤◌, 
 use Rattle.std.specs.Prelude.{◌==◌, ◌&&◌, ◌||◌}
 use Rattle.std.proofs.lemmas.Bool.{eqb-true, eqb-false, not-false, cases_Bool, eq-eqb}
 use Rattle.std.proofs.lemmas.Option.{same_Some, none-some}
-use Rattle.bench_base.specs.declared.words.Node.{Node}
-use Rattle.bench_base.specs.declared.words.Node.TheVariants.{Device}
-use Rattle.bench_base.specs.declared.words.Kind.{Kind}
-use Rattle.bench_base.specs.declared.words.Kind.TheVariants.{Enrol, Reset, Audit, Refund, Withdraw}
-use Rattle.bench_base.specs.declared.words.Verdict.TheVariants.{Granted}
-use Rattle.bench_base.specs.declared.refusals.Unread.{Unread}
+use Rattle.bench_base.specs.declared.{words.Node.Node, words.Node.TheVariants.Device, words.Kind.Kind, words.Kind.TheVariants.Enrol, words.Kind.TheVariants.Reset, words.Kind.TheVariants.Audit, words.Kind.TheVariants.Refund, words.Kind.TheVariants.Withdraw, words.Verdict.TheVariants.Granted, refusals.Unread.Unread, refusals.DevRefusal.DevRefusal}
 use Rattle.bench_base.specs.declared.refusals.Unread.TheVariants as unread
-use Rattle.bench_base.specs.declared.refusals.DevRefusal.{DevRefusal}
 use Rattle.bench_base.specs.declared.refusals.DevRefusal.TheVariants as no
 use Rattle.bench_base.specs.declared.ledger.Commit.TheVariants as c
 use Rattle.bench_base.specs.declared.ledger.Entry.TheVariants as e
@@ -23,12 +17,9 @@ use Rattle.bench_base.specs.Ranges.{IsDevice, IsWord, IsDay, IsKey, IsAsk, InRan
 use Rattle.bench_base.specs.Ledger.{Ledger, counted, is_on}
 use Rattle.indicium.specs.declared.Mark.{Mark}
 use Rattle.indicium.specs.Marks as marks
-use Rattle.psd_wire.specs.declared.message.Request.{Request}
-use Rattle.psd_wire.specs.declared.message.ReplyMsg.{ReplyMsg}
-use Rattle.psd_wire.specs.declared.message.DebitMsg.{DebitMsg}
-use Rattle.psd_wire.specs.declared.message.Message.{Message}
+use Rattle.psd_wire.specs.declared.{message.Request.Request, message.ReplyMsg.ReplyMsg, message.DebitMsg.DebitMsg, message.Message.Message}
 use Rattle.psd_wire.specs.declared.message.Message.TheVariants as m
-use Rattle.psd_wire.specs.Grammar.{read, spell, IsWhole}
+use Rattle.psd_wire.specs.Grammar.{read, spell, IsWhole, sum_size}
 use Rattle.psd_wire.proofs.Readings.{read_spell}
 use Rattle.ledger_terms.specs.Requests.{request_in, request_or_none, note_of}
 use Rattle.ledger_terms.specs.Sums.{adds, loaded, refunded, ascending, descending}
@@ -44,11 +35,9 @@ use Rattle.psd_state.specs.Records.{state_of}
 use Rattle.node_acts.specs.declared.act.Act.TheVariants.{Refuse, Tell, Commits}
 use Rattle.psd_state.specs.Acts as acts
 use Rattle.psd_state.specs.Acts.{DeviceAct}
-use Rattle.psd_state.specs.declared.acts.Franked.{Franked}
+use Rattle.psd_state.specs.declared.{acts.Franked.Franked, debiting.Debited.Debited, debiting.Debited.TheVariants.New, debiting.Debited.TheVariants.Again}
 use Rattle.psd_state.specs.Answers as answers
 use Rattle.psd_state.specs.Answers.{request_made, mark_made, amount_for, customer_for, is_stray}
-use Rattle.psd_state.specs.declared.debiting.Debited.{Debited}
-use Rattle.psd_state.specs.declared.debiting.Debited.TheVariants.{New, Again}
 use Rattle.ledger_terms.specs.Editions.{IsCarried}
 use Rattle.ledger_moves.specs.Histories.{IsKnown}
 use Rattle.node_acts.specs.Plans.{with_commit, after}
@@ -63,7 +52,6 @@ use Rattle.ledger_laws.proofs.Money.{funds, applied_some, ruling_asked}
 use Rattle.ledger_laws.proofs.Asked.{note_new, pending_asked, note_reads, applied_asked}
 use Rattle.ledger_laws.proofs.Franked.{device_word, pieces_word, marked_made, customer_word, marked_reads, marked_new, kept_marked}
 use Rattle.ledger_laws.proofs.Requests.{ruling_sane}
-use Rattle.psd_wire.specs.Grammar.{sum_size}
 use Rattle.ledger_laws.proofs.Grown.{IsCommand, Inv, Genuine, GenuineReply, genuine_at, inv_sent, inv_released}
 use Rattle.ledger_laws.proofs.Plans.{PlanOk, IsFit, first_refusal, ok_refuse, ok_made}
 
@@ -149,7 +137,7 @@ not_stray p q kind amount h =
     (cases_Bool (is_granted p.verdict)))
     h
 
--- how a debit is told of: the answer is a plain one, and what is told needs no more than that the mark is the device's
+-- how a debit is reported: the answer is a plain one, and what is recorded needs no more than that the mark is the device's
 pub record TellerOk (ρ : Rules) (T : Teller) (d piece : ℕ) : Type 0 where
   pub sane : (again : Bool) (x : List ℕ) → IsSane (T.reply again x)
   pub plain : (p : Plan) (again : Bool) (x : List ℕ) (H : Ledger) → after p (T.reply again x) H ≡ p.after ++ with_commit p.commit H
@@ -303,7 +291,7 @@ module _ (ρ : Rules) (carried : IsCarried ρ) (H : Ledger) (i : Inv ρ H) where
         bound = omega (arith, carried.total, sums.within);
       }
 
-  -- the mark that is told is the one of the debit
+  -- the mark that is reported is the one of the debit
   same_mark : (d : ℕ) (q : DebitMsg) (t : ℤ) (key : List ℕ) → key_of d (counted H) ≡ Some key → indicium_after d q.piece q.postage q.class t ρ.version (counted H) ≡ marks.spell (mark_made ρ (state_of d key (counted H)) q t) key
   unfolding indicium_after mark_after
   same_mark d q t key has = ap (λ o. marks.spell (mark_after d q.piece q.postage q.class t ρ.version (counted H)) (key_or_none o)) has
@@ -488,7 +476,7 @@ module _ (ρ : Rules) (carried : IsCarried ρ) (H : Ledger) (i : Inv ρ H) where
         sure = tt;
       })))
 
-  -- a debit that came as a message is told by its message
+  -- a debit that came as a message is reported by its message
   released_plan : (d k piece : ℕ) (act : DeviceAct Franked) → Devices.franked_plan (Devices.sent d piece k) d act ≡ Devices.taken_plan d k (acts.released piece act)
   released_plan d k piece (Refuse x) = refl
   released_plan d k piece (Tell f) = refl

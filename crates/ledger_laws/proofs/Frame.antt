@@ -2,26 +2,19 @@
 -- look-ups at other nodes that stay once they found something: so nothing has to be known of the other commit.
 
 use Rattle.std.proofs.Common.{◌≡◌, ℕ, ◌+◌, ◌-◌, ◌<◌, ◌≤◌, true, false, List, ◌∷◌, Option, refl, sym, ap, subst, ◌∙◌, true≢false}
-use Rattle.std.specs.Prelude.{◌&&◌, max}
-use Rattle.bench_base.specs.declared.words.Verdict.{Verdict}
-use Rattle.bench_base.specs.declared.ledger.Commit.{Commit}
-use Rattle.bench_base.specs.declared.ledger.Commit.TheVariants.{Made, Asked, Applied, Debited, Registered, Opened, Deposited, Flagged, Ruled, Settled, Ordered, Held, Began, Closed, Trusted, Accepted}
+use Rattle.std.specs.Prelude.{◌&&◌, max, nat_le}
+use Rattle.bench_base.specs.declared.{words.Verdict.Verdict, ledger.Commit.Commit, ledger.Commit.TheVariants.Made, ledger.Commit.TheVariants.Asked, ledger.Commit.TheVariants.Applied, ledger.Commit.TheVariants.Debited, ledger.Commit.TheVariants.Registered, ledger.Commit.TheVariants.Opened, ledger.Commit.TheVariants.Deposited, ledger.Commit.TheVariants.Flagged, ledger.Commit.TheVariants.Ruled, ledger.Commit.TheVariants.Settled, ledger.Commit.TheVariants.Ordered, ledger.Commit.TheVariants.Held, ledger.Commit.TheVariants.Began, ledger.Commit.TheVariants.Closed, ledger.Commit.TheVariants.Trusted, ledger.Commit.TheVariants.Accepted, words.Node.TheVariants.Centre, words.Node.TheVariants.Host, words.Node.TheVariants.Verifier, words.JobState.JobState}
 use Rattle.bench_base.specs.Rules.{Rules}
-use Rattle.psd_wire.specs.declared.message.Request.{Request}
+use Rattle.psd_wire.specs.declared.{message.Request.Request, message.ReplyMsg.ReplyMsg}
 use Rattle.ledger_terms.specs.Requests.{request_in}
-use Rattle.ledger_terms.specs.Centres.{ruled, done}
+use Rattle.ledger_terms.specs.Centres.{ruled, done, registered, opened, receipt, deposits, customer_sum}
 use Rattle.ledger_laws.proofs.Good.{Fits, is_full}
-use Rattle.bench_base.specs.declared.words.Node.TheVariants.{Centre, Host, Verifier}
 use Rattle.bench_base.specs.Nodes.{same_node, node_of}
 use Rattle.bench_base.specs.Jobs.{last_job, job_of, state_of, open_job, top}
 use Rattle.bench_base.specs.Scans.{trusted, accepted, blocks}
-use Rattle.bench_base.specs.declared.words.JobState.{JobState}
 use Rattle.host_jobs.specs.Answers.{is_open}
-use Rattle.std.specs.Prelude.{nat_le}
-use Rattle.psd_wire.specs.declared.message.ReplyMsg.{ReplyMsg}
 use Rattle.psd_wire.specs.declared.message.Message.TheVariants as m
 use Rattle.psd_wire.specs.Grammar.{IsWhole}
-use Rattle.ledger_terms.specs.Centres.{registered, opened, receipt, deposits, customer_sum}
 use Rattle.ledger_terms.specs.Rulings.{verdict, verdict_by, reply_to}
 use Rattle.ledger_laws.proofs.Kept.{note_kept, ruling_kept, applied_kept}
 

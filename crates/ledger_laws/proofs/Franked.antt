@@ -4,9 +4,7 @@ use Rattle.std.proofs.Common.{◌+◌, IsSome, ◌≡◌, ℕ, ℤ, ◌≤◌, B
 use Rattle.std.specs.Prelude.{◌==◌, ◌&&◌, if◌then◌else◌}
 use Rattle.std.proofs.lemmas.Bool.{eqb-true, cases_Bool, eq-eqb, and_parts}
 use Rattle.std.proofs.lemmas.Option.{same_Some}
-use Rattle.bench_base.specs.declared.words.Kind.TheVariants.{Enrol}
-use Rattle.bench_base.specs.declared.ledger.Commit.{Commit}
-use Rattle.bench_base.specs.declared.ledger.Commit.TheVariants.{Made, Applied, Debited, Registered}
+use Rattle.bench_base.specs.declared.{words.Kind.TheVariants.Enrol, ledger.Commit.Commit, ledger.Commit.TheVariants.Made, ledger.Commit.TheVariants.Applied, ledger.Commit.TheVariants.Debited, ledger.Commit.TheVariants.Registered}
 use Rattle.bench_base.specs.Rules.{Rules}
 use Rattle.bench_base.specs.Ranges.{IsDevice, IsWord}
 use Rattle.bench_base.specs.Kinds.{is_granted, same_kind}
@@ -48,7 +46,7 @@ module _ (ρ : Rules) where
       (λ s. rw s le)
   pieces_le d (_ ∷ C) g = pieces_le d C g.1
 
-  -- the number of a piece is one of 32 bits, and so is their count
+  -- the number of a piece has 32 bits, and their count has 32 bits too
   pub pieces_word : (d : ℕ) (C : List Commit) → Good ρ C → IsWord (pieces d C)
   pieces_word d [] g = omega arith
   pieces_word d (Debited e p a k t v ∷ C) g = either e d

@@ -1,19 +1,11 @@
 -- Which commits may follow which. `Fits ρ c C` says what the node of c had looked at when it made c after the commits C: that
--- its refusals did not hold, and what its messages told it. In a good list each commit fits those before it. Two kinds of
+-- its refusals did not hold, and what its messages contained. In a good list each commit fits those before it. Two kinds of
 -- facts stand here: facts about the node's own commits, and, about other nodes, look-ups by number that stay once they are
 -- found. So a commit of one node can't spoil what another node's commit rests on. The records speak of values and not of the
 -- list, so that a commit that changes none of them leaves them as they are.
 use Rattle.std.proofs.Common.{◌≡◌, ℕ, ℤ, pos, ◌+◌, ◌-◌, ◌<◌, ◌≤◌, ◌+ℤ◌, Bool, true, false, List, [], ◌∷◌, length, Option, Some, None, Ok}
 use Rattle.std.specs.Prelude.{◌||◌, ◌&&◌, is_none, nat_le, ◌≤ℤ◌, ◌<ℤ◌}
-use Rattle.bench_base.specs.declared.words.Verdict.{Verdict}
-use Rattle.bench_base.specs.declared.words.Verdict.TheVariants.{Granted}
-use Rattle.bench_base.specs.declared.words.Kind.TheVariants.{Enrol, Reset, Audit}
-use Rattle.bench_base.specs.declared.words.JobState.{JobState}
-use Rattle.bench_base.specs.declared.words.JobState.TheVariants.{Held as HeldJob}
-use Rattle.bench_base.specs.declared.words.Phase.{Phase}
-use Rattle.bench_base.specs.declared.words.Phase.TheVariants.{InService}
-use Rattle.bench_base.specs.declared.ledger.Commit.{Commit}
-use Rattle.bench_base.specs.declared.ledger.Commit.TheVariants.{Made, Asked, Applied, Debited, Registered, Opened, Deposited, Flagged, Ruled, Settled, Ordered, Held, Began, Closed, Trusted, Accepted}
+use Rattle.bench_base.specs.declared.{words.Verdict.Verdict, words.Verdict.TheVariants.Granted, words.Kind.TheVariants.Enrol, words.Kind.TheVariants.Reset, words.Kind.TheVariants.Audit, words.JobState.JobState, words.JobState.TheVariants.Held as HeldJob, words.Phase.Phase, words.Phase.TheVariants.InService, ledger.Commit.Commit, ledger.Commit.TheVariants.Made, ledger.Commit.TheVariants.Asked, ledger.Commit.TheVariants.Applied, ledger.Commit.TheVariants.Debited, ledger.Commit.TheVariants.Registered, ledger.Commit.TheVariants.Opened, ledger.Commit.TheVariants.Deposited, ledger.Commit.TheVariants.Flagged, ledger.Commit.TheVariants.Ruled, ledger.Commit.TheVariants.Settled, ledger.Commit.TheVariants.Ordered, ledger.Commit.TheVariants.Held, ledger.Commit.TheVariants.Began, ledger.Commit.TheVariants.Closed, ledger.Commit.TheVariants.Trusted, ledger.Commit.TheVariants.Accepted}
 use Rattle.bench_base.specs.Rules.{Rules}
 use Rattle.bench_base.specs.Ranges.{InRange}
 use Rattle.bench_base.specs.Kinds.{same_kind, empties, is_allowed}

@@ -1,27 +1,21 @@
--- What holds of every history, and that each kind of entry keeps it. The counted commits are a good list; an open commit would
--- fit them, and its node is off; each message that was sent reads as one that the counted commits vouch for; and the entries
--- that tell of a mark, a print or an acceptance have what they rest on. At an Up the open commit counts or not: either way the
--- list stays good, and what other nodes' open commits rest on stays too.
+-- What holds of every history, and that each kind of entry keeps it. The counted commits are a good list. An open commit would
+-- fit them, and its node is off. Each message that was sent reads as one that the counted commits vouch for. The entries that
+-- report a mark, a print or an acceptance have what they rest on. At an Up the open commit counts or not: either way the list
+-- stays good, and what other nodes' open commits rest on stays too.
 use Rattle.std.proofs.Common.{◌≡◌, ℕ, ℤ, ◌+◌, ◌<◌, ◌^◌, Bool, true, false, List, [], ◌∷◌, Option, Some, None, Ok, cond, refl, sym, ap, subst, ◌∙◌, true≢false, ◌⊎◌, inl, inr, ⊎_elim}
 use Rattle.std.specs.Prelude.{◌==◌, IsSome}
 use Rattle.std.proofs.lemmas.Bool.{cases_Bool}
 use Rattle.std.proofs.lemmas.Option.{same_Some, none-some}
-use Rattle.bench_base.specs.declared.words.Node.{Node}
-use Rattle.bench_base.specs.declared.words.Verdict.{Verdict}
-use Rattle.bench_base.specs.declared.ledger.Commit.{Commit}
-use Rattle.bench_base.specs.declared.ledger.Commit.TheVariants.{Held, Accepted}
-use Rattle.bench_base.specs.declared.ledger.Entry.{Entry}
+use Rattle.bench_base.specs.declared.{words.Node.Node, words.Verdict.Verdict, ledger.Commit.Commit, ledger.Commit.TheVariants.Held, ledger.Commit.TheVariants.Accepted, ledger.Entry.Entry}
 use Rattle.bench_base.specs.declared.ledger.Entry.TheVariants as e
 use Rattle.bench_base.specs.Rules.{Rules}
 use Rattle.bench_base.specs.Nodes.{same_node, node_of}
 use Rattle.bench_base.specs.Ranges.{IsDay, IsDevice, IsWord, InRange}
-use Rattle.psd_wire.specs.declared.message.DebitMsg.{DebitMsg}
+use Rattle.psd_wire.specs.declared.{message.DebitMsg.DebitMsg, message.ReplyMsg.ReplyMsg, message.Message.Message}
 use Rattle.bench_base.specs.Kinds.{is_granted}
 use Rattle.bench_base.specs.Ledger.{Ledger, day_in, IsSent, IsReleased, IsReleasedAs, IsPrinted, is_on, count_of, torn_of, at_up, counted}
 use Rattle.bench_base.specs.Jobs.{held_of, begun}
 use Rattle.bench_base.proofs.Facts.{ok_same, same_node_true}
-use Rattle.psd_wire.specs.declared.message.ReplyMsg.{ReplyMsg}
-use Rattle.psd_wire.specs.declared.message.Message.{Message}
 use Rattle.psd_wire.specs.declared.message.Message.TheVariants as m
 use Rattle.psd_wire.specs.Grammar.{read}
 use Rattle.ledger_terms.specs.Requests.{request_in, note_of}
@@ -108,7 +102,7 @@ Sure (Held j x) H = IsReleased x H
 Sure (Accepted d p s) H = IsReleasedAs d p H
 Sure c H = Unit {0}
 
--- the newest counted commit has it
+-- the newest counted commit has what it rests on
 abbrev pub NewestSure : Ledger → List Commit → Type 0
 NewestSure H [] = Unit {0}
 NewestSure H (c ∷ C) = Sure c H
@@ -128,7 +122,7 @@ newest_kept k H (c ∷ C) h = sure_kept c k H h
 
 -- == the invariant ==
 
--- what the newest entry tells of, and the newest counted commit, have what they rest on
+-- what the newest entry reports, and the newest counted commit, have what they rest on
 pub record Told (P : Ledger) : Type 0 where
   pub releases : Releases P
   pub prints : PrintedOnce P
@@ -170,7 +164,7 @@ module _ (ρ : Rules) where
   pub inv_none : Inv ρ []
   inv_none = record { good = tt; opens = λ n c h. absurd (none-some _ h); sents = λ x h. absurd h; told = record { releases = tt; prints = tt; sure = tt }; printed = λ j h. absurd h; dated = λ t h. absurd (none-some _ h) }
 
-  -- an entry that changes no more than what is told leaves open commits as they are
+  -- an entry that changes no more than what is reported leaves open commits as they are
   open_kept : (k : Entry) (H : Ledger) (n : Node) (c : Commit) (on : Bool) → OpenFits ρ n c on H (counted H) → OpenFits ρ n c on (k ∷ H) (counted H)
   open_kept k H n c on o = record { node = o.node; off = o.off; fits = o.fits; range = o.range; sure = sure_kept c k H o.sure }
 

@@ -1,18 +1,14 @@
 -- Every history keeps the invariant, whatever fails. Each part of an event's plan is right; so what any move adds keeps the
--- invariant; and a later edition of the rules allows what the one before it does.
+-- invariant; and a later version of the rules allows what the one before it does.
 use Rattle.std.proofs.Common.{◌≡◌, ℕ, ℤ, pos, ◌≤◌, ◌+ℤ◌, ◌≤ℤ◌, true, false, true≢false, List, [], ◌∷◌, length, drop, Option, Some, None, Result, Ok, Err, refl, sym, ap, subst, ◌∙◌, inl, inr, ⊎_elim, arith}
 use Rattle.std.specs.Prelude.{◌==◌, nat_lt}
 use Rattle.std.proofs.lemmas.Bool.{cases_Bool}
 use Rattle.std.proofs.lemmas.Int.{ints}
 use Rattle.std.proofs.lemmas.Option.{same_Some, none-some}
-use Rattle.bench_base.specs.declared.words.Node.{Node}
-use Rattle.bench_base.specs.declared.words.Node.TheVariants.{Device, Centre, Host, Verifier}
-use Rattle.bench_base.specs.declared.refusals.MarkFault.{MarkFault}
+use Rattle.bench_base.specs.declared.{words.Node.Node, words.Node.TheVariants.Device, words.Node.TheVariants.Centre, words.Node.TheVariants.Host, words.Node.TheVariants.Verifier, refusals.MarkFault.MarkFault, ledger.Commit.Commit, events.Event.Event}
 use Rattle.bench_base.specs.declared.refusals.DevRefusal.TheVariants as no
-use Rattle.bench_base.specs.declared.ledger.Commit.{Commit}
 use Rattle.bench_base.specs.declared.ledger.Commit.TheVariants as c
 use Rattle.bench_base.specs.declared.ledger.Entry.TheVariants as e
-use Rattle.bench_base.specs.declared.events.Event.{Event}
 use Rattle.bench_base.specs.declared.events.Event.TheVariants as ev
 use Rattle.bench_base.specs.declared.events.Reply.TheVariants as r
 use Rattle.bench_base.specs.Rules.{Rules}
@@ -23,8 +19,7 @@ use Rattle.bench_base.specs.Ledger.{Ledger, day_in, rates_in, messages, message,
 use Rattle.bench_base.specs.Scans.{trusted}
 use Rattle.indicium.specs.declared.Mark.{Mark}
 use Rattle.indicium.specs.Marks.{read_mark}
-use Rattle.psd_wire.specs.declared.message.DebitMsg.{DebitMsg}
-use Rattle.psd_wire.specs.declared.message.Message.{Message}
+use Rattle.psd_wire.specs.declared.{message.DebitMsg.DebitMsg, message.Message.Message}
 use Rattle.psd_wire.specs.declared.message.Message.TheVariants as m
 use Rattle.psd_wire.specs.Grammar.{read}
 use Rattle.psd_wire.proofs.Readings.{read_found, mark_long}
@@ -244,7 +239,7 @@ pub carried_by : (ρs : List Rules) (ρ : Rules) → Follows ρs ρ → IsCarrie
 carried_by [] ρ f = f
 carried_by (σ ∷ σs) ρ f = f.0
 
--- every history by these editions keeps the invariant of each that comes after them
+-- every history by these versions of the rules keeps the invariant of each that comes after them
 pub histories : (τ : Tariff) (ρs : List Rules) → Editions ρs → (H : Ledger) → History τ ρs H → (ρ : Rules) → Follows ρs ρ → Inv ρ H
 histories τ ρs E H nothing σ a = inv_none σ
 histories τ ρs E H (begins {H = I} h) σ a = inv_begin σ I (histories τ ρs E I h σ a)

@@ -5,22 +5,12 @@ use Rattle.std.specs.Prelude.{◌==◌, ◌&&◌, length, unwrap_or, is_some, is
 use Rattle.std.proofs.lemmas.Bool.{eqb-true, leb-true, le-leb, eq-eqb}
 use Rattle.std.proofs.Math.Bool.{and-false}
 use Rattle.std.proofs.lemmas.Option.{same_Some, none-some}
-use Rattle.bench_base.specs.declared.sizes.TheConstants.{VERIFIER_CELLS, FIRST_BLOCK}
-use Rattle.bench_base.specs.declared.words.Node.{Node}
-use Rattle.bench_base.specs.declared.words.Node.TheVariants.{Host, Verifier}
-use Rattle.bench_base.specs.declared.words.JobState.{JobState}
+use Rattle.bench_base.specs.declared.{sizes.TheConstants.VERIFIER_CELLS, sizes.TheConstants.FIRST_BLOCK, words.Node.Node, words.Node.TheVariants.Host, words.Node.TheVariants.Verifier, words.JobState.JobState, refusals.Unread.Unread, refusals.MarkFault.MarkFault, refusals.RateRefusal.RateRefusal, refusals.HostRefusal.HostRefusal, refusals.ScanRefusal.ScanRefusal, ledger.Commit.Commit, ledger.Entry.Entry}
 use Rattle.bench_base.specs.declared.words.JobState.TheVariants as state
-use Rattle.bench_base.specs.declared.refusals.Unread.{Unread}
 use Rattle.bench_base.specs.declared.refusals.Unread.TheVariants as unread
-use Rattle.bench_base.specs.declared.refusals.MarkFault.{MarkFault}
-use Rattle.bench_base.specs.declared.refusals.RateRefusal.{RateRefusal}
-use Rattle.bench_base.specs.declared.refusals.HostRefusal.{HostRefusal}
 use Rattle.bench_base.specs.declared.refusals.HostRefusal.TheVariants as no
-use Rattle.bench_base.specs.declared.refusals.ScanRefusal.{ScanRefusal}
 use Rattle.bench_base.specs.declared.refusals.ScanRefusal.TheVariants as not_v
-use Rattle.bench_base.specs.declared.ledger.Commit.{Commit}
 use Rattle.bench_base.specs.declared.ledger.Commit.TheVariants as c
-use Rattle.bench_base.specs.declared.ledger.Entry.{Entry}
 use Rattle.bench_base.specs.declared.ledger.Entry.TheVariants as e
 use Rattle.bench_base.specs.declared.events.Reply.TheVariants as r
 use Rattle.bench_base.specs.Rules.{Rules}
@@ -30,8 +20,7 @@ use Rattle.bench_base.specs.Ledger.{Ledger, counted, is_on, torn_of, at_up, coun
 use Rattle.bench_base.specs.Jobs.{Job, last_job, job_of, state_of, open_job, begun}
 use Rattle.bench_base.specs.Scans.{trusted, accepted, block_of, block_place, blocks}
 use Rattle.bench_base.proofs.Facts.{ok_same, either, found}
-use Rattle.node_acts.specs.declared.act.Act.TheVariants.{Tell, Commits}
-use Rattle.node_acts.specs.declared.said.Said.{Said}
+use Rattle.node_acts.specs.declared.{act.Act.TheVariants.Tell, act.Act.TheVariants.Commits, said.Said.Said}
 use Rattle.node_acts.specs.Said.{said_plan}
 use Rattle.indicium.specs.declared.Mark.{Mark}
 use Rattle.indicium.specs.Marks.{read_mark}
@@ -50,8 +39,7 @@ use Rattle.host_jobs.specs.Rows.{job_in}
 use Rattle.host_jobs.proofs.Answered.{may_order, may_hold}
 use Rattle.host_jobs.proofs.ByRows.{shown_is}
 use Rattle.host_jobs.proofs.CellFacts.{IsRowOf}
-use Rattle.verifier.specs.declared.acts.Accepted.{Accepted}
-use Rattle.verifier.specs.declared.acts.Spot.{Spot}
+use Rattle.verifier.specs.declared.{acts.Accepted.Accepted, acts.Spot.Spot}
 use Rattle.verifier.specs.Answers.{scan_rows, scan_answer}
 use Rattle.verifier.specs.Acts.{ScanAct, trusted_act, answered_act, marked_act, read_act}
 use Rattle.verifier.specs.Plans as scans
@@ -132,7 +120,7 @@ module _ (ρ : Rules) (carried : IsCarried ρ) (H : Ledger) (i : Inv ρ H) where
 
   -- == the host ==
 
-  -- the plan of an act of the host that is told so
+  -- the plan of an act of the host that is reported so
   abbrev OkTold : {A : Type 0} → (A → Said) → HostAct A → Type 0
   OkTold say act = PlanOk ρ H (said_plan (host.says say act))
 
@@ -158,7 +146,7 @@ module _ (ρ : Rules) (carried : IsCarried ρ) (H : Ledger) (i : Inv ρ H) where
   order_ok d p k on device piece class (Some (Err x)) price = no_host (no.Rate x)
   order_ok d p k on device piece class (Some (Ok a)) price = priced_ok d p a k (tops_after (counted H)) on device piece (price a refl) class (open_job d (counted H)) refl
 
-  -- the message for a job keeps what is told true
+  -- the message for a job keeps what is reported true
   sends : (l j : ℕ) (x : JobRow) → job_of j (counted H) ≡ Some (job_in x) → OkTold (host.told_sent j l) (Tell (debit_note x))
   sends l j x at =
       let b = job_in x in

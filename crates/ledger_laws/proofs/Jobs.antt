@@ -5,13 +5,10 @@ use Rattle.std.proofs.Common.{◌≡◌, ℕ, ◌<◌, ◌≤◌, true, false, L
 use Rattle.std.specs.Prelude.{◌==◌}
 use Rattle.std.proofs.lemmas.Bool.{eqb-true, eqb-false, cases_Bool, eq-eqb, ne_eqb, and_parts}
 use Rattle.std.proofs.lemmas.Option.{same_Some}
-use Rattle.bench_base.specs.declared.ledger.Commit.{Commit}
-use Rattle.bench_base.specs.declared.ledger.Commit.TheVariants.{Ordered, Held, Began, Closed}
+use Rattle.bench_base.specs.declared.{ledger.Commit.Commit, ledger.Commit.TheVariants.Ordered, ledger.Commit.TheVariants.Held, ledger.Commit.TheVariants.Began, ledger.Commit.TheVariants.Closed, words.JobState.JobState, words.JobState.TheVariants.Ordered as OrderedJob, words.JobState.TheVariants.Held as HeldJob, words.JobState.TheVariants.Begun as BegunJob, words.JobState.TheVariants.Closed as ClosedJob}
 use Rattle.bench_base.specs.Rules.{Rules}
 use Rattle.bench_base.specs.Rows.{first_of}
 use Rattle.ledger_laws.proofs.Good.{Good}
-use Rattle.bench_base.specs.declared.words.JobState.{JobState}
-use Rattle.bench_base.specs.declared.words.JobState.TheVariants.{Ordered as OrderedJob, Held as HeldJob, Begun as BegunJob, Closed as ClosedJob}
 use Rattle.bench_base.specs.Jobs.{Job, last_job, job_of, state_of, held_of, open_job, unless_job, piece_at, top, begun}
 use Rattle.bench_base.proofs.Facts.{either, kept_first, first_of_none, first_of_some}
 use Rattle.host_jobs.proofs.JobFacts.{at_most}

@@ -1,10 +1,7 @@
 -- What a later commit doesn't change: a look-up by number that found something, and what was once so.
 use Rattle.std.proofs.Common.{◌≡◌, ℕ, Bool, true, false, List, ◌∷◌, Some, cond, refl}
 use Rattle.std.specs.Prelude.{◌==◌, ◌&&◌}
-use Rattle.bench_base.specs.declared.words.Kind.TheVariants.{Enrol}
-use Rattle.bench_base.specs.declared.words.Verdict.{Verdict}
-use Rattle.bench_base.specs.declared.ledger.Commit.{Commit}
-use Rattle.bench_base.specs.declared.ledger.Commit.TheVariants.{Asked, Applied, Ruled, Began}
+use Rattle.bench_base.specs.declared.{words.Kind.TheVariants.Enrol, words.Verdict.Verdict, ledger.Commit.Commit, ledger.Commit.TheVariants.Asked, ledger.Commit.TheVariants.Applied, ledger.Commit.TheVariants.Ruled, ledger.Commit.TheVariants.Began}
 use Rattle.bench_base.specs.Kinds.{same_kind, is_granted}
 use Rattle.bench_base.specs.Jobs.{begun}
 use Rattle.bench_base.proofs.Facts.{kept_first}

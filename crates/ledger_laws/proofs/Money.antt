@@ -6,10 +6,7 @@ use Rattle.std.proofs.Common.{◌≡◌, ℕ, ◌+◌, ◌-◌, ◌<◌, ◌≤�
 use Rattle.std.specs.Prelude.{◌==◌, ◌&&◌, max}
 use Rattle.std.proofs.lemmas.Bool.{eqb-true, cases_lt, eq-eqb, and_parts, lt-leb}
 use Rattle.std.proofs.lemmas.Option.{same_Some}
-use Rattle.bench_base.specs.declared.words.Verdict.{Verdict}
-use Rattle.bench_base.specs.declared.words.Verdict.TheVariants.{Granted}
-use Rattle.bench_base.specs.declared.ledger.Commit.{Commit}
-use Rattle.bench_base.specs.declared.ledger.Commit.TheVariants.{Asked, Applied, Debited, Ruled}
+use Rattle.bench_base.specs.declared.{words.Verdict.Verdict, words.Verdict.TheVariants.Granted, ledger.Commit.Commit, ledger.Commit.TheVariants.Asked, ledger.Commit.TheVariants.Applied, ledger.Commit.TheVariants.Debited, ledger.Commit.TheVariants.Ruled}
 use Rattle.bench_base.specs.Rules.{Rules}
 use Rattle.bench_base.specs.Kinds.{empties, is_granted}
 use Rattle.bench_base.proofs.Facts.{either, first_of_none, first_of_some, found, when}

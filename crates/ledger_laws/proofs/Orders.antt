@@ -4,11 +4,7 @@ use Rattle.std.specs.Prelude.{◌==◌, ◌&&◌, ◌-ℤ◌, is_some}
 use Rattle.std.proofs.lemmas.Bool.{eqb-true, and_parts}
 use Rattle.std.proofs.lemmas.Int.{ints}
 use Rattle.std.proofs.lemmas.Option.{same_Some}
-use Rattle.bench_base.specs.declared.words.JobState.{JobState}
-use Rattle.bench_base.specs.declared.words.JobState.TheVariants.{Ordered as OrderedJob, Held as HeldJob, Closed as ClosedJob}
-use Rattle.bench_base.specs.declared.words.Verdict.{Verdict}
-use Rattle.bench_base.specs.declared.ledger.Commit.{Commit}
-use Rattle.bench_base.specs.declared.ledger.Commit.TheVariants.{Made, Asked, Applied, Debited, Registered, Opened, Deposited, Flagged, Ruled, Settled, Ordered, Held, Began, Closed, Trusted, Accepted}
+use Rattle.bench_base.specs.declared.{words.JobState.JobState, words.JobState.TheVariants.Ordered as OrderedJob, words.JobState.TheVariants.Held as HeldJob, words.JobState.TheVariants.Closed as ClosedJob, words.Verdict.Verdict, ledger.Commit.Commit, ledger.Commit.TheVariants.Made, ledger.Commit.TheVariants.Asked, ledger.Commit.TheVariants.Applied, ledger.Commit.TheVariants.Debited, ledger.Commit.TheVariants.Registered, ledger.Commit.TheVariants.Opened, ledger.Commit.TheVariants.Deposited, ledger.Commit.TheVariants.Flagged, ledger.Commit.TheVariants.Ruled, ledger.Commit.TheVariants.Settled, ledger.Commit.TheVariants.Ordered, ledger.Commit.TheVariants.Held, ledger.Commit.TheVariants.Began, ledger.Commit.TheVariants.Closed, ledger.Commit.TheVariants.Trusted, ledger.Commit.TheVariants.Accepted}
 use Rattle.bench_base.specs.Rules.{Rules}
 use Rattle.bench_base.specs.Jobs.{last_job}
 use Rattle.bench_base.proofs.Facts.{some_none, either, none_if, found}

@@ -5,21 +5,15 @@ use Rattle.std.proofs.Common.{◌≡◌, ℕ, Bool, true, false, List, [], ◌�
 use Rattle.std.specs.Prelude.{◌==◌, ◌&&◌, ◌||◌}
 use Rattle.std.proofs.lemmas.Bool.{eqb-true, cases_Bool, eq-eqb, and_parts, or_right}
 use Rattle.std.proofs.lemmas.Option.{same_Some}
-use Rattle.bench_base.specs.declared.words.Kind.{Kind}
-use Rattle.bench_base.specs.declared.words.Kind.TheVariants.{Enrol, Reset, Audit, Refund, Withdraw}
-use Rattle.bench_base.specs.declared.words.Verdict.{Verdict}
-use Rattle.bench_base.specs.declared.ledger.Commit.{Commit}
-use Rattle.bench_base.specs.declared.ledger.Commit.TheVariants.{Asked, Applied, Ruled}
+use Rattle.bench_base.specs.declared.{words.Kind.Kind, words.Kind.TheVariants.Enrol, words.Kind.TheVariants.Reset, words.Kind.TheVariants.Audit, words.Kind.TheVariants.Refund, words.Kind.TheVariants.Withdraw, words.Verdict.Verdict, ledger.Commit.Commit, ledger.Commit.TheVariants.Asked, ledger.Commit.TheVariants.Applied, ledger.Commit.TheVariants.Ruled}
 use Rattle.bench_base.specs.Rules.{Rules}
-use Rattle.bench_base.specs.Kinds.{same_kind, is_granted}
+use Rattle.bench_base.specs.Kinds.{same_kind, is_granted, is_allowed}
 use Rattle.psd_wire.specs.declared.message.Request.{Request}
 use Rattle.ledger_terms.specs.Requests.{request_in, note_of, in_note, request_of}
-use Rattle.ledger_terms.specs.Devices.{pending, unless_applied}
+use Rattle.ledger_terms.specs.Devices.{pending, unless_applied, applied_kind, customer, phase_of}
 use Rattle.ledger_terms.specs.InFlight.{ruling_of}
 use Rattle.ledger_laws.proofs.Good.{Good, Fits}
-use Rattle.bench_base.specs.Kinds.{is_allowed}
 use Rattle.bench_base.proofs.Facts.{either, kept_first, found}
-use Rattle.ledger_terms.specs.Devices.{applied_kind, customer, phase_of}
 use Rattle.ledger_terms.specs.Centres.{enrolled}
 use Rattle.ledger_laws.proofs.Kept.{enrolled_kept}
 use Rattle.ledger_laws.proofs.Money.{ruling_asked}

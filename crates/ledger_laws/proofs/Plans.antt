@@ -1,11 +1,8 @@
--- What a plan adds keeps the invariant, whatever reply the event gets. A plan is right where its commit fits and its node is on,
--- where what it tells afterwards keeps the invariant, and where its answer is one that honest devices and centres give.
+-- What a plan adds keeps the invariant, whatever reply the event gets. A plan is right if its commit fits and its node is on,
+-- if what it records afterwards keeps the invariant, and if its answer is one that honest devices and centres give.
 use Rattle.std.proofs.Common.{◌≡◌, ◌+◌, ℕ, ℤ, Bool, true, List, [], ◌∷◌, ◌++◌, Option, Some, None, Result, Ok, Err, refl, sym, ap, subst, ◌∙◌, ◌⊎◌, ⊎_elim}
 use Rattle.std.proofs.lemmas.Option.{same_Some, none-some}
-use Rattle.bench_base.specs.declared.words.Node.{Node}
-use Rattle.bench_base.specs.declared.ledger.Commit.{Commit}
-use Rattle.bench_base.specs.declared.events.Event.{Event}
-use Rattle.bench_base.specs.declared.events.Reply.{Reply}
+use Rattle.bench_base.specs.declared.{words.Node.Node, ledger.Commit.Commit, events.Event.Event, events.Reply.Reply}
 use Rattle.bench_base.specs.declared.events.Reply.TheVariants as r
 use Rattle.bench_base.specs.Rules.{Rules}
 use Rattle.bench_base.specs.Nodes.{node_of}
@@ -42,7 +39,7 @@ ok_refuse ρ H x e s = record { sane = s; plain = e; no_up = λ n k h. refl; fit
 
 -- == tables whose rows refuse ==
 
--- it refuses, with a refusal of which this holds
+-- it refuses, and this holds of the refusal
 abbrev pub RefusesBy : {A F : Type 0} → (F → Type 0) → Result A F → Type 0
 RefusesBy Sane (Err x) = Sane x
 RefusesBy Sane (Ok a) = ⊥

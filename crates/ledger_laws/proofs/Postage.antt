@@ -3,9 +3,7 @@
 use Rattle.std.proofs.Common.{◌≡◌, ℕ, ◌+◌, ◌≤◌, Bool, true, false, cond, List, [], ◌∷◌, Option, Some, None, IsSomeAnd, is_some, unwrap_or, refl, sym, ap, subst, ◌∙◌, true≢false, ⊎_elim, arith}
 use Rattle.std.specs.Prelude.{◌==◌, ◌&&◌, if◌then◌else◌}
 use Rattle.std.proofs.lemmas.Bool.{cases_Bool, eqb-true, eq-eqb, ne_eqb, and_parts}
-use Rattle.bench_base.specs.declared.words.Node.{Node}
-use Rattle.bench_base.specs.declared.ledger.Commit.{Commit}
-use Rattle.bench_base.specs.declared.ledger.Commit.TheVariants.{Debited, Accepted}
+use Rattle.bench_base.specs.declared.{words.Node.Node, ledger.Commit.Commit, ledger.Commit.TheVariants.Debited, ledger.Commit.TheVariants.Accepted}
 use Rattle.bench_base.specs.declared.ledger.Entry.TheVariants as entry
 use Rattle.bench_base.specs.Rules.{Rules}
 use Rattle.bench_base.specs.Ledger.{Ledger, IsReleasedAs, count_of, torn_of, at_up, counted}
@@ -107,7 +105,7 @@ accepted_elsewhere e d p n q C s = rw s refl
 
 -- == the postage of some of the debits ==
 
--- of those whose piece is one of these
+-- the postage of the debits of these pieces
 abbrev postage_where : (ℕ → Bool) → ℕ → List Commit → ℕ
 postage_where f d [] = 0
 postage_where f d (Debited e p a k t v ∷ C) = if e == d then (if f p then postage_where f d C + a else postage_where f d C) else postage_where f d C
@@ -166,7 +164,7 @@ module _ (ρ : Rules) where
       (λ s. rw s more)
   one_more f g d p was now others (_ ∷ C) good = one_more f g d p was now others C good.1
 
-  -- what was accepted has the postage of the debits whose piece was accepted
+  -- what was accepted has the postage of the debits of accepted pieces
   by_debits : (d : ℕ) (C : List Commit) → Good ρ C → AreDebited C → accepted_postage d C ≡ Some (postage_where (is_accepted d C) d C)
   by_debits d [] good all = refl
   by_debits d (Debited e p a k t v ∷ C) good all =

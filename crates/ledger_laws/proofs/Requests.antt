@@ -2,13 +2,9 @@
 -- applied. So no Request that was asked is ever ruled to disagree with the centre's sums.
 
 use Rattle.std.proofs.Common.{◌≡◌, ℕ, ◌+◌, ◌<◌, ◌≤◌, Bool, true, false, List, [], ◌∷◌, Option, Some, None, ⊎_elim, refl, sym, ap, subst, ◌∙◌, true≢false, not, arith}
-use Rattle.std.specs.Prelude.{◌==◌, ◌&&◌, ◌||◌}
+use Rattle.std.specs.Prelude.{◌==◌, ◌&&◌, ◌||◌, nat_lt}
 use Rattle.std.proofs.lemmas.Bool.{eq-eqb, ne_eqb, le-ltb}
-use Rattle.bench_base.specs.declared.words.Kind.TheVariants.{Enrol, Reset, Audit}
-use Rattle.bench_base.specs.declared.words.Verdict.{Verdict}
-use Rattle.bench_base.specs.declared.words.Verdict.TheVariants.{Granted}
-use Rattle.bench_base.specs.declared.ledger.Commit.{Commit}
-use Rattle.bench_base.specs.declared.ledger.Commit.TheVariants.{Asked, Applied, Ruled}
+use Rattle.bench_base.specs.declared.{words.Kind.TheVariants.Enrol, words.Kind.TheVariants.Reset, words.Kind.TheVariants.Audit, words.Verdict.Verdict, words.Verdict.TheVariants.Granted, ledger.Commit.Commit, ledger.Commit.TheVariants.Asked, ledger.Commit.TheVariants.Applied, ledger.Commit.TheVariants.Ruled}
 use Rattle.bench_base.specs.Rules.{Rules}
 use Rattle.bench_base.specs.Kinds.{same_kind, empties}
 use Rattle.psd_wire.specs.declared.message.Request.{Request}
@@ -18,15 +14,13 @@ use Rattle.ledger_terms.specs.Devices.{asked, number, pending, unless_applied}
 use Rattle.ledger_terms.specs.Centres.{ruled}
 use Rattle.ledger_terms.specs.InFlight.{ruling_of}
 use Rattle.ledger_laws.proofs.Good.{Good, Fits}
-use Rattle.ledger_laws.proofs.Links.{link, waits, waits_some, note_le}
-use Rattle.std.specs.Prelude.{nat_lt}
+use Rattle.ledger_laws.proofs.Links.{link, waits, waits_some, note_le, Waits}
 use Rattle.std.proofs.lemmas.Option.{same_Some}
 use Rattle.bench_base.specs.Rows.{any_true}
 use Rattle.bench_base.proofs.Facts.{either, found}
 use Rattle.bench_base.proofs.Rows.{first_that}
 use Rattle.ledger_terms.specs.Rulings.{verdict, verdict_by, verdict_rows, account_of, out_of_balance, imbalances, buys_limit}
 use Rattle.ledger_terms.specs.Sane.{is_imbalance}
-use Rattle.ledger_laws.proofs.Links.{Waits}
 use Rattle.ledger_laws.proofs.Money.{funds, balance}
 use Rattle.ledger_laws.proofs.Asked.{pending_asked, note_reads}
 

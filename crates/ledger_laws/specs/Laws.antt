@@ -1,10 +1,6 @@
 -- What is said of every history.
 use Rattle.std.specs.Prelude.{◌≡◌, ◌⊎◌, ℕ, ℤ, ◌+◌, List, ◌∷◌, Some}
-use Rattle.bench_base.specs.declared.words.Node.{Node}
-use Rattle.bench_base.specs.declared.ledger.Commit.{Commit}
-use Rattle.bench_base.specs.declared.ledger.Entry.TheVariants.{Up}
-use Rattle.bench_base.specs.declared.events.Event.{Event}
-use Rattle.bench_base.specs.declared.events.Reply.{Reply}
+use Rattle.bench_base.specs.declared.{words.Node.Node, ledger.Commit.Commit, ledger.Entry.TheVariants.Up, events.Event.Event, events.Reply.Reply}
 use Rattle.bench_base.specs.Rules.{Rules}
 use Rattle.bench_base.specs.Ledger.{Ledger, day_in, count_of, torn_of, counted}
 use Rattle.ledger_terms.specs.Lawful.{Always, Lawful}
@@ -16,7 +12,7 @@ use Rattle.ledger_moves.specs.Tariffs.{Tariff}
 use Rattle.ledger_moves.specs.Moves.{Moves}
 use Rattle.ledger_moves.specs.Histories.{Unforged, History}
 
--- P holds of every history, whatever the tariff and the editions of the rules
+-- P holds of every history, whatever the tariff and the versions of the rules
 abbrev pub ForHistories : (Tariff → Rules → List Rules → Ledger → Type 0) → Type 0
 ForHistories P = (τ : Tariff) (ρ : Rules) (ρs : List Rules) (H : Ledger) → Editions (ρ ∷ ρs) → History τ (ρ ∷ ρs) H → P τ ρ ρs H
 
@@ -29,7 +25,7 @@ abbrev pub MayShowEither : Tariff → List Rules → Ledger → Type 0
 MayShowEither τ ρs H = (t : ℤ) → day_in H ≡ Some t → (n : Node) (c : Commit) → torn_of n H ≡ Some c
     → (k : ℕ) → (k ≡ count_of n (counted H)) ⊎ (k ≡ count_of n (counted H) + 1) → History τ ρs (Up n k ∷ H)
 
--- What holds of a history by the rules ρ and the editions ρs before them.
+-- What holds of a history by the rules ρ and the versions ρs before them.
 pub record Holds (τ : Tariff) (ρ : Rules) (ρs : List Rules) (H : Ledger) : Type 0 where
   pub lawful : Lawful ρ H
   pub owners : OfCounted HasOwner H

@@ -1,15 +1,13 @@
 -- The cells of each node, and how many commits lie in them together. The lists of commits have the newest first.
 use Rattle.std.specs.Prelude.{◌≡◌, ℕ, List, [], ◌∷◌, ◌++◌, All, Contains, count_by, sum_by, map}
 use Rattle.std.specs.List.{range_with_len}
-use Rattle.bench_base.specs.declared.words.Node.{Node}
-use Rattle.bench_base.specs.declared.words.Node.TheVariants.{Device, Centre, Host, Verifier}
-use Rattle.bench_base.specs.declared.ledger.Commit.{Commit}
+use Rattle.bench_base.specs.declared.{words.Node.Node, words.Node.TheVariants.Device, words.Node.TheVariants.Centre, words.Node.TheVariants.Host, words.Node.TheVariants.Verifier, ledger.Commit.Commit}
 use Rattle.bench_base.specs.Nodes.{node_of}
 use Rattle.bench_base.specs.Cells.{Place, OfDevice, OfRow, OfCustomer, OfJob, OfTrust, OfBlock, same_place, place_of, commits_at}
 use Rattle.bench_base.specs.Ledger.{count_of}
 use Rattle.bench_base.specs.Scans.{blocks}
 
--- in whose storage a place lies
+-- the node that has the place in its storage
 abbrev pub node_at : Place → Node
 node_at (OfDevice d) = Device d
 node_at (OfRow d) = Centre

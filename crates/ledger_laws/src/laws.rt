@@ -1,8 +1,6 @@
 //! The laws of histories, each as a contract of a function that takes and answers nothing.
 ghost use Rattle.std.specs.Prelude.{◌≡◌, ℕ, List, [], ◌∷◌, Some, All, IsSome, true};
-ghost use Rattle.bench_base.specs.declared.words.Node.{Node};
-ghost use Rattle.bench_base.specs.declared.ledger.Commit.{Commit};
-ghost use Rattle.bench_base.specs.declared.events.Event.{Event};
+ghost use Rattle.bench_base.specs.declared.{words.Node.Node, ledger.Commit.Commit, events.Event.Event};
 ghost use Rattle.bench_base.specs.Rules.{first_rules, editions};
 ghost use Rattle.bench_base.specs.Ranges.{InRange};
 ghost use Rattle.bench_base.specs.Ledger.{Ledger, torn_of, counted};
@@ -16,21 +14,21 @@ ghost use Rattle.ledger_laws.specs.Places.{PlacesAddUp, CellsAddUp};
 ghost use Rattle.ledger_laws.specs.Nexts.{AreOrdered, IsNext, IsOpen};
 ghost use Rattle.ledger_laws.specs.Laws.{ForHistories, Holds};
 
-/// What holds of every history, for every reading of rates and all editions of the rules of which each
-/// allows what the one before it does, also with commits that a cut left open (`today`: the rules in use are such editions):
+/// What holds of every history, for every reading of rates and all versions of the rules, if each version allows what the one
+/// before it does. A history may have commits that a cut left open. The rules in use are such versions (`today`).
 ///
-/// - `lawful`: it is lawful;
-/// - `owners`: a ruled request that is no enrolment has the customer under which its device is enrolled;
-/// - `linked`: device and centre are never further apart than the link allows;
-/// - `balanced`: no ruling is that the sums disagree;
-/// - `sane`: no event is answered `ahead`, `changed`, `stray` or `damaged`;
-/// - `begins`: what a device applied is the beginning of what the centre ruled, except for at most one amount;
-/// - `covered`: no more is acknowledged as refunded than as bought;
-/// - `paid`: each accepted piece was debited before, all of them for no more than was franked, and what was franked was bought;
-/// - `fitting` and `sent`: each number of a commit fits its field, and each message that was sent is read
-///   as one to a device of 1 to 8;
-/// - `replied`: a reply that was sent is, whole, the one to its ruling, its deadline and origin too;
-/// - `either`: on a day, an `on` of a node with an open commit may show either count.
+/// - `lawful`. The history is lawful.
+/// - `owners`. A ruled request that is no enrolment has the customer under which its device is enrolled.
+/// - `linked`. Device and centre are never further apart than the link allows.
+/// - `balanced`. No ruling is that the sums disagree.
+/// - `sane`. No event is answered `ahead`, `changed`, `stray` or `damaged`.
+/// - `begins`. What a device applied is the beginning of what the centre ruled, except for at most one amount.
+/// - `covered`. No more is acknowledged as refunded than as bought.
+/// - `paid`. Each accepted piece was debited before, all of them for no more than was franked, and what was franked was bought.
+/// - `fitting` and `sent`. Each number of a commit fits its field, and each message that was sent is read as one to a device
+///   of 1 to 8.
+/// - `replied`. A reply that was sent is, whole, the one to its ruling, its deadline and origin too.
+/// - `either`. On a day, an `on` of a node with an open commit may show either count.
 pub fn histories()
     ensures today { Editions editions }
     ensures earlier { (τ : Tariff) (H : Ledger) → History τ (first_rules ∷ []) H → History τ editions H }
@@ -39,9 +37,9 @@ pub fn histories()
 
 /// What the next commit of every history may be, and what the nodes' records rest on:
 ///
-/// - `ordered`: the counted commits are in the order of each node, so a node's record is that of the commits;
-/// - `next`: so they are after the commit of any event, whose node is on;
-/// - `torn`: so they are if an open commit counts, whose node is off.
+/// - `ordered`. The counted commits are in the order of each node, so a node's record is that of the commits.
+/// - `next`. They are in order after the commit of any event, and the commit's node is on.
+/// - `torn`. They are in order if an open commit counts, and the commit's node is off.
 pub fn orders()
     ensures ordered { ForHistories (λ τ ρ ρs H. AreOrdered (counted H)) }
     ensures next { ForHistories (λ τ ρ ρs H. (x : Event) (text : List ℕ) → IsWholeEvent x → Unforged x H
@@ -63,8 +61,8 @@ pub fn withdrawals()
 
 /// What lies in the cells of a node adds up to its commits, in every list of commits:
 ///
-/// - `places`: for each list that has the place of each of the node's commits, each place once;
-/// - `cells`: so for the cells of a device, of the centre, of the host and of the verifier, where each commit's numbers
+/// - `places`. This holds for each list that has the place of each of the node's commits, each place once.
+/// - `cells`. So it holds for the cells of a device, of the centre, of the host and of the verifier, if each commit's numbers
 ///   are in range.
 pub fn cells()
     ensures places { PlacesAddUp }

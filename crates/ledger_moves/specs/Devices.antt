@@ -1,19 +1,13 @@
 -- The device's part of an event: the plan of what its record after the commits does. Amounts are in mills, days since 1970-01-01.
 use Rattle.std.specs.Prelude.{ℕ, ℤ, ◌+◌, Bool, List, [], ◌∷◌, Option, Some, None, Result, option_map}
-use Rattle.bench_base.specs.declared.words.Kind.{Kind}
-use Rattle.bench_base.specs.declared.refusals.Unread.{Unread}
-use Rattle.bench_base.specs.declared.refusals.DevRefusal.{DevRefusal}
+use Rattle.bench_base.specs.declared.{words.Kind.Kind, refusals.Unread.Unread, refusals.DevRefusal.DevRefusal, ledger.Commit.Commit, ledger.Entry.Entry, events.Reply.Reply}
 use Rattle.bench_base.specs.declared.refusals.DevRefusal.TheVariants as no
-use Rattle.bench_base.specs.declared.ledger.Commit.{Commit}
-use Rattle.bench_base.specs.declared.ledger.Entry.{Entry}
 use Rattle.bench_base.specs.declared.ledger.Entry.TheVariants as e
-use Rattle.bench_base.specs.declared.events.Reply.{Reply}
 use Rattle.bench_base.specs.declared.events.Reply.TheVariants as r
 use Rattle.bench_base.specs.Rules.{Rules}
 use Rattle.bench_base.specs.Plans.{Plan, refuse, told}
 use Rattle.node_acts.specs.Plans.{plan_of}
-use Rattle.psd_wire.specs.declared.message.DebitMsg.{DebitMsg}
-use Rattle.psd_wire.specs.declared.message.Message.{Message}
+use Rattle.psd_wire.specs.declared.{message.DebitMsg.DebitMsg, message.Message.Message}
 use Rattle.psd_wire.specs.declared.message.Message.TheVariants as m
 use Rattle.psd_wire.specs.Grammar.{spell}
 use Rattle.ledger_terms.specs.Devices.{key_of, number}
@@ -21,8 +15,7 @@ use Rattle.psd_state.specs.State.{State}
 use Rattle.psd_state.specs.Records.{state_of}
 use Rattle.psd_state.specs.Acts as acts
 use Rattle.psd_state.specs.Acts.{DeviceAct}
-use Rattle.psd_state.specs.declared.acts.Franked.{Franked}
-use Rattle.psd_state.specs.declared.acts.Taken.{Taken}
+use Rattle.psd_state.specs.declared.{acts.Franked.Franked, acts.Taken.Taken}
 use Rattle.psd_state.specs.declared.acts.Taken.TheVariants as taken
 
 -- the record of device d after these commits, if it was made: under this key

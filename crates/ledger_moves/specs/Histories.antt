@@ -1,14 +1,8 @@
 -- Histories: the ledgers that whole events make, whatever fails, where nothing that comes from outside is forged.
 use Rattle.std.specs.Prelude.{◌≡◌, ℕ, true, List, [], ◌∷◌, Some, Result, Ok, Err}
-use Rattle.bench_base.specs.declared.words.Node.{Node}
-use Rattle.bench_base.specs.declared.refusals.Unread.{Unread}
-use Rattle.bench_base.specs.declared.refusals.MarkFault.{MarkFault}
+use Rattle.bench_base.specs.declared.{words.Node.Node, refusals.Unread.Unread, refusals.MarkFault.MarkFault, events.Event.Event, events.Reply.Reply, questions.Brought.Brought, questions.Brought.TheVariants.Nothing, questions.Brought.TheVariants.Handed, questions.Brought.TheVariants.Scanned}
 use Rattle.bench_base.specs.declared.ledger.Entry.TheVariants as e
-use Rattle.bench_base.specs.declared.events.Event.{Event}
 use Rattle.bench_base.specs.Events.{brought_by}
-use Rattle.bench_base.specs.declared.events.Reply.{Reply}
-use Rattle.bench_base.specs.declared.questions.Brought.{Brought}
-use Rattle.bench_base.specs.declared.questions.Brought.TheVariants.{Nothing, Handed, Scanned}
 use Rattle.bench_base.specs.Rules.{Rules}
 use Rattle.bench_base.specs.Ledger.{Ledger, counted, IsSent, IsReleased}
 use Rattle.bench_base.specs.Scans.{trusted}
@@ -55,7 +49,7 @@ AreKnown (Scanned bytes) H = IsKnownMark bytes (read_mark bytes) H
 abbrev pub Unforged : Event → Ledger → Type 0
 Unforged x H = AreKnown (brought_by x) H
 
--- a history under these editions of the rules, of which the newest comes first: what was one by the earlier editions is one
+-- a history under these versions of the rules, the newest first: what was a history by the earlier versions is one
 pub data History (τ : Tariff) : List Rules → Ledger → Type 0 where
   nothing : {ρs : List Rules} → History τ ρs []
   begins : {ρs : List Rules} {H : Ledger} → History τ ρs H → History τ ρs (e.Begin ∷ H)

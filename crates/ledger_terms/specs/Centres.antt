@@ -1,9 +1,6 @@
 -- What the commits show of the centre: its devices, its customers and their money, in mills.
 use Rattle.std.specs.Prelude.{ℕ, ℤ, pos, ◌+◌, ◌-◌, ◌+ℤ◌, ◌-ℤ◌, Bool, true, false, ◌&&◌, List, [], ◌∷◌, Option, Some, None, ◌==◌, max, if◌then◌else◌}
-use Rattle.bench_base.specs.declared.words.Kind.TheVariants.{Enrol, Withdraw}
-use Rattle.bench_base.specs.declared.words.Verdict.{Verdict}
-use Rattle.bench_base.specs.declared.ledger.Commit.{Commit}
-use Rattle.bench_base.specs.declared.ledger.Commit.TheVariants.{Registered, Opened, Deposited, Flagged, Ruled, Settled}
+use Rattle.bench_base.specs.declared.{words.Kind.TheVariants.Enrol, words.Kind.TheVariants.Withdraw, words.Verdict.Verdict, ledger.Commit.Commit, ledger.Commit.TheVariants.Registered, ledger.Commit.TheVariants.Opened, ledger.Commit.TheVariants.Deposited, ledger.Commit.TheVariants.Flagged, ledger.Commit.TheVariants.Ruled, ledger.Commit.TheVariants.Settled}
 use Rattle.bench_base.specs.Kinds.{same_kind, is_granted}
 use Rattle.bench_base.specs.Rows.{first_of}
 use Rattle.psd_wire.specs.declared.message.Request.{Request}
@@ -31,7 +28,8 @@ key_in (Some x) = x.1
 -- the customer of the first granted ruling on an enrolment
 abbrev pub enrolled : ℕ → List Commit → Option ℕ
 enrolled d [] = None
-enrolled d (Ruled e n v note ∷ C) = if (e == d) && (is_granted v && same_kind (request_in note).kind Enrol) then first_of (enrolled d C) (Some (request_in note).customer) else enrolled d C
+enrolled d (Ruled e n v note ∷ C) = if (e == d) && (is_granted v && same_kind (request_in note).kind Enrol)
+    then first_of (enrolled d C) (Some (request_in note).customer) else enrolled d C
 enrolled d (_ ∷ C) = enrolled d C
 
 -- a withdrawal of the device was granted

@@ -1,13 +1,7 @@
 -- What the commits show of a device: its key, phase, dates, customer and the transaction that is outstanding. Days are since 1970-01-01.
 use Rattle.std.specs.Prelude.{ℕ, ℤ, pos, ◌+ℤ◌, Bool, true, false, ◌&&◌, ◌||◌, List, [], ◌∷◌, Option, Some, None, ◌==◌, if◌then◌else◌}
 use lib.Signed.{lt_z}
-use Rattle.bench_base.specs.declared.words.Kind.{Kind}
-use Rattle.bench_base.specs.declared.words.Kind.TheVariants.{Enrol, Audit, Withdraw}
-use Rattle.bench_base.specs.declared.words.Verdict.{Verdict}
-use Rattle.bench_base.specs.declared.words.Phase.{Phase}
-use Rattle.bench_base.specs.declared.words.Phase.TheVariants.{Manufactured, Authorised, InService, Locked, Withdrawn}
-use Rattle.bench_base.specs.declared.ledger.Commit.{Commit}
-use Rattle.bench_base.specs.declared.ledger.Commit.TheVariants.{Made, Asked, Applied, Debited}
+use Rattle.bench_base.specs.declared.{words.Kind.Kind, words.Kind.TheVariants.Enrol, words.Kind.TheVariants.Audit, words.Kind.TheVariants.Withdraw, words.Verdict.Verdict, words.Phase.Phase, words.Phase.TheVariants.Manufactured, words.Phase.TheVariants.Authorised, words.Phase.TheVariants.InService, words.Phase.TheVariants.Locked, words.Phase.TheVariants.Withdrawn, ledger.Commit.Commit, ledger.Commit.TheVariants.Made, ledger.Commit.TheVariants.Asked, ledger.Commit.TheVariants.Applied, ledger.Commit.TheVariants.Debited}
 use Rattle.bench_base.specs.Kinds.{same_kind, empties, is_granted, is_dated}
 use Rattle.bench_base.specs.Rows.{first_of}
 use Rattle.psd_wire.specs.declared.message.Request.{Request}
@@ -81,11 +75,12 @@ phase_of false false false = Manufactured
 abbrev pub phase : ℕ → List Commit → Phase
 phase d C = phase_of (applied_kind Withdraw d C) (applied_kind Audit d C) (applied_kind Enrol d C)
 
--- the last day on which the device franks any postage: 92 days after the day in the Request of its last granted and applied reset or audit, and 0
--- before the first; small postage is franked for the days of grace behind it
+-- The device franks any postage up to this day, inclusive: 92 days after the day in the Request of its last granted and applied reset or
+-- audit, and 0 before the first. It franks small postage for the days of grace after it.
 abbrev pub deadline : ℕ → List Commit → ℤ
 deadline d [] = pos 0
-deadline d (Applied e n v ∷ C) = if e == d then (if is_dated v (request_of d n C).kind then (request_of d n C).day +ℤ pos 92 else deadline d C) else deadline d C
+deadline d (Applied e n v ∷ C) = if e == d then (if is_dated v (request_of d n C).kind then (request_of d n C).day +ℤ pos 92 else deadline d C)
+    else deadline d C
 deadline d (_ ∷ C) = deadline d C
 
 -- the day of the last Debited or Asked, and 0 before the first
@@ -98,7 +93,8 @@ last_day d (_ ∷ C) = last_day d C
 -- the customer in the Request of the granted applied enrolment, and 0 before it
 abbrev pub customer : ℕ → List Commit → ℕ
 customer d [] = 0
-customer d (Applied e n v ∷ C) = if e == d then (if is_granted v && same_kind (request_of d n C).kind Enrol then (request_of d n C).customer else customer d C) else customer d C
+customer d (Applied e n v ∷ C) = if e == d then (if is_granted v && same_kind (request_of d n C).kind Enrol then (request_of d n C).customer
+    else customer d C) else customer d C
 customer d (_ ∷ C) = customer d C
 
 -- the registered origin after a granted applied enrolment, and 0 before it

@@ -1,4 +1,4 @@
--- Editions of the rules: each allows what the one before it does.
+-- Versions of the rules: each allows what the one before it does.
 use Rattle.std.specs.Prelude.{◌≤◌, List, [], ◌∷◌}
 use Rattle.bench_base.specs.Rules.{Rules, IsVersion}
 use Rattle.ledger_terms.specs.Rulings.{buys_limit}
@@ -15,7 +15,7 @@ pub record Allows (first second : Rules) : Type 0 where
   pub grace : first.grace ≤ second.grace
   pub small : first.small ≤ second.small
 
--- the rules come after these editions, of which the newest comes first
+-- the rules follow these versions, the newest first
 abbrev pub Follows : List Rules → Rules → Type 0
 Follows [] ρ = IsCarried ρ
 Follows (σ ∷ σs) ρ = IsCarried ρ × Allows σ ρ

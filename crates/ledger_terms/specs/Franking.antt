@@ -1,7 +1,6 @@
 -- The mark of each debit.
 use Rattle.std.specs.Prelude.{ℕ, ℤ, ◌+◌, ◌-◌, ◌&&◌, List, [], ◌∷◌, Option, Some, None, ◌==◌, if◌then◌else◌}
-use Rattle.bench_base.specs.declared.ledger.Commit.{Commit}
-use Rattle.bench_base.specs.declared.ledger.Commit.TheVariants.{Debited}
+use Rattle.bench_base.specs.declared.{ledger.Commit.Commit, ledger.Commit.TheVariants.Debited}
 use Rattle.bench_base.specs.Rows.{first_of}
 use Rattle.indicium.specs.declared.Mark.{Mark}
 use Rattle.indicium.specs.Marks.{spell}
@@ -40,11 +39,13 @@ kept d (_ ∷ C) = kept d C
 -- the spelling of the kept mark
 abbrev pub kept_indicium : ℕ → List Commit → Option (List ℕ)
 kept_indicium d [] = None
-kept_indicium d (Debited e piece postage class day version ∷ C) = if e == d then Some (indicium_after d piece postage class day version C) else kept_indicium d C
+kept_indicium d (Debited e piece postage class day version ∷ C) = if e == d then Some (indicium_after d piece postage class day version C)
+    else kept_indicium d C
 kept_indicium d (_ ∷ C) = kept_indicium d C
 
 -- the spelling of the mark of the first Debited of this piece
 abbrev pub marked : ℕ → ℕ → List Commit → Option (List ℕ)
 marked d p [] = None
-marked d p (Debited e q postage class day version ∷ C) = if (e == d) && (q == p) then first_of (marked d p C) (Some (indicium_after d q postage class day version C)) else marked d p C
+marked d p (Debited e q postage class day version ∷ C) = if (e == d) && (q == p)
+    then first_of (marked d p C) (Some (indicium_after d q postage class day version C)) else marked d p C
 marked d p (_ ∷ C) = marked d p C

@@ -1,14 +1,11 @@
 -- What holds of every history beside that it is lawful.
 use Rattle.std.specs.Prelude.{◌≡◌, ℕ, ◌+◌, ◌≤◌, false, List, [], ◌∷◌, ◌++◌, length, Option, Some, None, Ok, IsSomeAnd, ◌==◌, ◌&&◌, if◌then◌else◌}
-use Rattle.bench_base.specs.declared.words.Kind.TheVariants.{Enrol}
-use Rattle.bench_base.specs.declared.ledger.Commit.{Commit}
-use Rattle.bench_base.specs.declared.ledger.Commit.TheVariants.{Debited, Ruled, Accepted}
+use Rattle.bench_base.specs.declared.{words.Kind.TheVariants.Enrol, ledger.Commit.Commit, ledger.Commit.TheVariants.Debited, ledger.Commit.TheVariants.Ruled, ledger.Commit.TheVariants.Accepted}
 use Rattle.bench_base.specs.Kinds.{same_kind}
 use Rattle.bench_base.specs.Ranges.{IsDevice, InRange}
 use Rattle.bench_base.specs.Ledger.{Ledger, IsSent, counted}
 use Rattle.bench_base.specs.Rows.{first_of}
-use Rattle.psd_wire.specs.declared.message.ReplyMsg.{ReplyMsg}
-use Rattle.psd_wire.specs.declared.message.Message.{Message}
+use Rattle.psd_wire.specs.declared.{message.ReplyMsg.ReplyMsg, message.Message.Message}
 use Rattle.psd_wire.specs.declared.message.Message.TheVariants as m
 use Rattle.psd_wire.specs.Grammar.{read}
 use Rattle.ledger_terms.specs.Requests.{request_in}
@@ -77,7 +74,8 @@ abbrev pub sum_of : Option ℕ → Option ℕ → Option ℕ
 sum_of (Some a) (Some b) = Some (a + b)
 sum_of a b = None
 
--- the postage of each acceptance, by the debits before it: a piece counts as often as it was accepted, and there is no sum where one was accepted without a debit
+-- the postage of each acceptance, by the debits before it: a piece counts as often as it was accepted, and there is no sum where one was
+-- accepted without a debit
 abbrev pub accepted_postage : ℕ → List Commit → Option ℕ
 accepted_postage d [] = Some 0
 accepted_postage d (Accepted e piece scan ∷ C) = if e == d then sum_of (accepted_postage d C) (postage_of d piece C) else accepted_postage d C

@@ -1,8 +1,6 @@
 -- Which rulings of a device are acknowledged, and the one that is in flight. Amounts are in mills.
 use Rattle.std.specs.Prelude.{ℕ, ◌+◌, ◌&&◌, List, [], ◌∷◌, Option, Some, None, ◌==◌, nat_le, if◌then◌else◌}
-use Rattle.bench_base.specs.declared.words.Verdict.{Verdict}
-use Rattle.bench_base.specs.declared.ledger.Commit.{Commit}
-use Rattle.bench_base.specs.declared.ledger.Commit.TheVariants.{Ruled}
+use Rattle.bench_base.specs.declared.{words.Verdict.Verdict, ledger.Commit.Commit, ledger.Commit.TheVariants.Ruled}
 use Rattle.bench_base.specs.Rows.{first_of}
 use Rattle.psd_wire.specs.declared.message.Request.{Request}
 use Rattle.ledger_terms.specs.Requests.{request_in}
@@ -19,7 +17,8 @@ ruling_of d n (_ ∷ C) = ruling_of d n C
 -- the sum of f over the rulings up to number s
 abbrev pub ruled_sum_to : (Verdict → Request → ℕ) → ℕ → ℕ → List Commit → ℕ
 ruled_sum_to f d s [] = 0
-ruled_sum_to f d s (Ruled e n v note ∷ C) = if e == d then (if nat_le n s then ruled_sum_to f d s C + f v (request_in note) else ruled_sum_to f d s C) else ruled_sum_to f d s C
+ruled_sum_to f d s (Ruled e n v note ∷ C) = if e == d then (if nat_le n s then ruled_sum_to f d s C + f v (request_in note) else ruled_sum_to f d s C)
+    else ruled_sum_to f d s C
 ruled_sum_to f d s (_ ∷ C) = ruled_sum_to f d s C
 
 -- the sum of the granted resets that are acknowledged: their number is at most the settled one

@@ -1,9 +1,7 @@
--- What every history meets: nine clauses that hold of each prefix of the ledger. Over its counted commits they say what the newest commit may be after those before it.
+-- What every history meets: nine clauses that hold of each prefix of the ledger. They say what the newest of its counted commits may be
+-- after those before it.
 use Rattle.std.specs.Prelude.{◌≡◌, ℕ, ℤ, pos, ◌+◌, ◌-◌, ◌+ℤ◌, ◌≤◌, ◌≤ℤ◌, ◌<ℤ◌, Bool, true, false, List, [], ◌∷◌, Option, Some, None, IsSome, ◌==◌, ◌&&◌, ◌⊎◌, if◌then◌else◌}
-use Rattle.bench_base.specs.declared.words.Phase.TheVariants.{InService}
-use Rattle.bench_base.specs.declared.ledger.Commit.{Commit}
-use Rattle.bench_base.specs.declared.ledger.Commit.TheVariants.{Asked, Applied, Debited, Ruled, Settled, Held, Accepted}
-use Rattle.bench_base.specs.declared.ledger.Entry.TheVariants.{Released, Printed}
+use Rattle.bench_base.specs.declared.{words.Phase.TheVariants.InService, ledger.Commit.Commit, ledger.Commit.TheVariants.Asked, ledger.Commit.TheVariants.Applied, ledger.Commit.TheVariants.Debited, ledger.Commit.TheVariants.Ruled, ledger.Commit.TheVariants.Settled, ledger.Commit.TheVariants.Held, ledger.Commit.TheVariants.Accepted, ledger.Entry.TheVariants.Released, ledger.Entry.TheVariants.Printed}
 use Rattle.bench_base.specs.Rules.{Rules}
 use Rattle.bench_base.specs.Kinds.{is_granted, empties}
 use Rattle.bench_base.specs.Ledger.{Ledger, counted, IsReleased, IsReleasedAs, IsPrinted}
@@ -37,9 +35,9 @@ asks d [] = 0
 asks d (Asked e n note ∷ C) = if e == d then asks d C + 1 else asks d C
 asks d (_ ∷ C) = asks d C
 
--- the k-th Asked has number k, and comes after the Applied of the number before;
--- a Ruled comes once for each number, after the Asked of that number with the same Request;
--- an Applied comes once for each number, after the Ruled of that number with the same verdict
+-- The k-th Asked has number k, and comes after the Applied of the number before.
+-- A Ruled comes once for each number, after the Asked of that number with the same Request.
+-- An Applied comes once for each number, after the Ruled of that number with the same verdict.
 abbrev pub Numbering : List Commit → Type 0
 Numbering (Asked d n note ∷ C) = (n ≡ asks d C + 1) × ((n ≡ 1) ⊎ IsSome (applied_of d (n - 1) C))
 Numbering (Ruled d n v note ∷ C) = (ruling_of d n C ≡ None) × (note_of d n C ≡ Some note)
@@ -96,7 +94,8 @@ debited_since d n (_ ∷ C) = debited_since d n C
 -- no Debited stands between its Asked and its Applied, and just after the Applied descending is 0
 abbrev pub Refunds : List Commit → Type 0
 Refunds (Ruled d n v note ∷ C) = is_granted v ≡ true → empties (request_in note).kind ≡ true → (request_in note).amount ≡ descending d C
-Refunds (Applied d n v ∷ C) = is_granted v ≡ true → empties (request_of d n C).kind ≡ true → (debited_since d n C ≡ false) × (descending d (Applied d n v ∷ C) ≡ 0)
+Refunds (Applied d n v ∷ C) = is_granted v ≡ true → empties (request_of d n C).kind ≡ true → (debited_since d n C ≡ false)
+    × (descending d (Applied d n v ∷ C) ≡ 0)
 Refunds C = Unit {0}
 
 -- == registers ==
@@ -114,7 +113,8 @@ pub record IsBalanced (settled ruled ascending descending resets refunds adds ta
 
 -- the registers of the device are its acknowledged resets less its refunds, with the one ruling that is in flight
 abbrev pub Accounts : List Commit → ℕ → Type 0
-Accounts C d = IsBalanced (settled d C) (ruled d C) (ascending d C) (descending d C) (acknowledged_resets d C) (acknowledged_refunds d C) (flight adds d C) (flight takes d C)
+Accounts C d = IsBalanced (settled d C) (ruled d C) (ascending d C) (descending d C) (acknowledged_resets d C) (acknowledged_refunds d C)
+    (flight adds d C) (flight takes d C)
 
 -- so it is of every device, and after an application
 abbrev pub Registers : List Commit → Type 0

@@ -1,18 +1,26 @@
 -- The Request that has a number of a device.
 use Rattle.std.specs.Prelude.{ℕ, pos, ◌&&◌, List, [], ◌∷◌, Option, Some, None, Result, Ok, ◌==◌, if◌then◌else◌}
-use Rattle.bench_base.specs.declared.words.Kind.TheVariants.{Audit}
-use Rattle.bench_base.specs.declared.refusals.Unread.{Unread}
-use Rattle.bench_base.specs.declared.ledger.Commit.{Commit}
-use Rattle.bench_base.specs.declared.ledger.Commit.TheVariants.{Asked}
+use Rattle.bench_base.specs.declared.{words.Kind.TheVariants.Audit, refusals.Unread.Unread, ledger.Commit.Commit, ledger.Commit.TheVariants.Asked}
 use Rattle.bench_base.specs.Rows.{first_of}
-use Rattle.psd_wire.specs.declared.message.Request.{Request}
-use Rattle.psd_wire.specs.declared.message.Message.{Message}
+use Rattle.psd_wire.specs.declared.{message.Request.Request, message.Message.Message}
 use Rattle.psd_wire.specs.declared.message.Message.TheVariants as m
 use Rattle.psd_wire.specs.Grammar.{read}
 
 -- an audit of nothing on the first day that the product knows: it stands where there is no Request, and adds nothing to any sum
 abbrev pub no_request : Request
-no_request = record { version = 1; device = 0; number = 0; kind = Audit; customer = 0; amount = 0; ascending = 0; descending = 0; refunded = 0; pieces = 0; day = pos 10957 }
+no_request = record {
+  version = 1;
+  device = 0;
+  number = 0;
+  kind = Audit;
+  customer = 0;
+  amount = 0;
+  ascending = 0;
+  descending = 0;
+  refunded = 0;
+  pieces = 0;
+  day = pos 10957;
+}
 
 -- the Request that was read, or an empty one
 abbrev pub request_or_none : Result Message Unread → Request

@@ -1,14 +1,9 @@
 -- How the centre rules on a Request, over the commits before it. Amounts are in mills.
 use Rattle.std.specs.Prelude.{ℕ, pos, min, ◌+◌, ◌+ℤ◌, Bool, true, false, not, ◌&&◌, ◌||◌, List, [], ◌∷◌, Option, Some, None, ◌==◌, nat_lt, if◌then◌else◌}
-use Rattle.bench_base.specs.declared.words.Kind.TheVariants.{Enrol, Reset, Audit}
-use Rattle.bench_base.specs.declared.words.Verdict.{Verdict}
-use Rattle.bench_base.specs.declared.words.Verdict.TheVariants.{Granted, NotEnrolled, EnrolledAlready, NoCustomer, Suspended, NoFunds, Imbalance}
-use Rattle.bench_base.specs.declared.ledger.Commit.{Commit}
-use Rattle.bench_base.specs.declared.ledger.Commit.TheVariants.{Ruled}
+use Rattle.bench_base.specs.declared.{words.Kind.TheVariants.Enrol, words.Kind.TheVariants.Reset, words.Kind.TheVariants.Audit, words.Verdict.Verdict, words.Verdict.TheVariants.Granted, words.Verdict.TheVariants.NotEnrolled, words.Verdict.TheVariants.EnrolledAlready, words.Verdict.TheVariants.NoCustomer, words.Verdict.TheVariants.Suspended, words.Verdict.TheVariants.NoFunds, words.Verdict.TheVariants.Imbalance, ledger.Commit.Commit, ledger.Commit.TheVariants.Ruled}
 use Rattle.bench_base.specs.Kinds.{same_kind, empties, is_dated}
 use Rattle.bench_base.specs.Rows.{first_holding, first_of, any_true}
-use Rattle.psd_wire.specs.declared.message.Request.{Request}
-use Rattle.psd_wire.specs.declared.message.ReplyMsg.{ReplyMsg}
+use Rattle.psd_wire.specs.declared.{message.Request.Request, message.ReplyMsg.ReplyMsg}
 use Rattle.psd_wire.specs.declared.message.Message.TheVariants as m
 use Rattle.psd_wire.specs.Grammar.{spell}
 use Rattle.ledger_terms.specs.Requests.{request_in}

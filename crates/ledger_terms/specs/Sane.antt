@@ -1,14 +1,6 @@
--- Answers that never come where devices and centre are honest.
+-- Answers that are never given if devices and centre are honest.
 use Rattle.std.specs.Prelude.{◌≡◌, Bool, true, false}
-use Rattle.bench_base.specs.declared.words.Verdict.{Verdict}
-use Rattle.bench_base.specs.declared.words.Verdict.TheVariants.{Imbalance}
-use Rattle.bench_base.specs.declared.refusals.DevRefusal.{DevRefusal}
-use Rattle.bench_base.specs.declared.refusals.DevRefusal.TheVariants.{Stray}
-use Rattle.bench_base.specs.declared.refusals.CentreRefusal.{CentreRefusal}
-use Rattle.bench_base.specs.declared.refusals.CentreRefusal.TheVariants.{Ahead, Changed}
-use Rattle.bench_base.specs.declared.events.Reply.{Reply}
-use Rattle.bench_base.specs.declared.questions.Refusal.TheVariants.{Device as OfDevice, Centre as OfCentre}
-use Rattle.bench_base.specs.declared.questions.Report.{Report}
+use Rattle.bench_base.specs.declared.{words.Verdict.Verdict, words.Verdict.TheVariants.Imbalance, refusals.DevRefusal.DevRefusal, refusals.DevRefusal.TheVariants.Stray, refusals.CentreRefusal.CentreRefusal, refusals.CentreRefusal.TheVariants.Ahead, refusals.CentreRefusal.TheVariants.Changed, events.Reply.Reply, questions.Refusal.TheVariants.Device as OfDevice, questions.Refusal.TheVariants.Centre as OfCentre, questions.Report.Report}
 use Rattle.bench_base.specs.declared.questions.Report.TheVariants as report
 use Rattle.bench_base.specs.Replies.{report_of}
 

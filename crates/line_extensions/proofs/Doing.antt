@@ -1,4 +1,4 @@
--- What became of one line beside a desk.
+-- What became of one line beside an extension.
 use Rattle.std.proofs.Common.{◌≡◌, ◌≢◌, ◌⊎◌, inl, inr, ℕ, List, flat_map, Option, Some, None, refl, sym, ◌∙◌, ap, subst}
 use Rattle.std.proofs.KnownBytes.{Appends-nil}
 use Rattle.bench_base.specs.declared.events.Event.{Event}
@@ -10,16 +10,13 @@ use Rattle.script_text.specs.Texts.{IsWholeReply}
 use Rattle.line_runs.specs.Lines.{ended}
 use Rattle.line_runs.specs.Turns.{Reported, LineEnd}
 use Rattle.line_runs.specs.declared.status.Status.TheVariants as status
-use Rattle.line_runs.specs.declared.status.SideStatus.{SideStatus}
-use Rattle.line_runs.specs.declared.status.SideStatus.TheVariants.{Run, Stopped}
+use Rattle.line_runs.specs.declared.{status.SideStatus.SideStatus, status.SideStatus.TheVariants.Run, status.SideStatus.TheVariants.Stopped}
 use Rattle.line_extensions.specs.Trace.{StepRecord, Skipped, Did, line_of}
 use Rattle.line_extensions.specs.Desks.{World, world, SideLeaves, side_lines, Asks, Does}
 use Rattle.line_extensions.specs.Events.{IsLineOf}
 use Rattle.line_extensions.specs.SideTrace.{Plain, Own, Broken}
 use Rattle.line_extensions.specs.Wants.{IsEvent}
-use Rattle.line_extensions.specs.declared.extension.Extension.{Ghosts}
-use Rattle.line_extensions.specs.declared.extension.Next.{Next}
-use Rattle.line_extensions.specs.declared.extension.Next.TheVariants.{Say, Stop}
+use Rattle.line_extensions.specs.declared.{extension.Extension.Ghosts, extension.Next.Next, extension.Next.TheVariants.Say, extension.Next.TheVariants.Stop}
 
 module _ {K T : Type 0} (k : Ghosts K T) {B : Type 0} (Steps : B → B → StepRecord → Turn → Type 0) (Wants : B → B → Type 0) (number : ℕ) (line : List ℕ) where
   abbrev pub End : Option SideStatus → World B K → World B K → Option (List ℕ) → Option (List ℕ) → Type 0
@@ -28,7 +25,7 @@ module _ {K T : Type 0} (k : Ghosts K T) {B : Type 0} (Steps : B → B → StepR
   pub skipped : (w : World B K) (taken : Option (List ℕ)) → IsSkipped line → End None w w taken taken
   skipped w taken is = LineEnd.did (record { trace_step = Plain (Skipped line); line_is = refl; is = is; did = (w, refl, refl); reported = (tt, Appends-nil taken) })
 
-  -- the desk answered
+  -- the extension answered
   pub answered : (outcome : Option SideStatus) (b : B) (desk mid : K) (new : World B K) (taken0 taken1 : Option (List ℕ)) (own : k.Own) (first last : Next) (steps : List StepRecord) → k.IsOwn own line
       → k.Begins desk own first mid → Asks k Steps (world b mid) new first steps last → last ≡ Say → Reported outcome (Unit {0}) ⊥ ⊥ (flat_map ended (k.texts new.desk)) taken0 taken1
       → End outcome (world b desk) new taken0 taken1
@@ -51,7 +48,7 @@ module _ {K T : Type 0} (k : Ghosts K T) {B : Type 0} (Steps : B → B → StepR
     reported = (tt, refl);
   })
 
-  -- the line is none
+  -- the line is not valid
   pub refused : (b : B) (desk now : K) (taken : Option (List ℕ)) → (IsSkipped line → ⊥) → ((own : k.Own) → k.IsOwn own line → IsEvent line) → now ≡ desk
       → ((e : Event) → IsWholeEvent e → Spells e line → ⊥) → End (Some (Run (status.Script number))) (world b desk) (world b now) taken taken
   refused b desk now taken not_skipped events same none = LineEnd.refused (record {
@@ -65,7 +62,7 @@ module _ {K T : Type 0} (k : Ghosts K T) {B : Type 0} (Steps : B → B → StepR
   wants_memory (Some (Run status.Memory)) = inl refl
   wants_memory _ = inr (λ is. cc)
 
-  -- an event that the desk left to the bench
+  -- an event that the extension left to the bench
   pub plain : (outcome : Option SideStatus) (old new : B) (desk mid now : K) (taken0 taken1 : Option (List ℕ)) (e : Event) → IsLineOf e line → k.Passes desk line → mid ≡ desk
       → (outcome ≢ Some (Run status.Memory) → (d : StepRecord) × (turn : Turn) × (d.event ≡ e) × Steps old new d turn × k.Sees mid e turn now × IsWholeReply d.reply × Reported outcome (e ≢ ev.End) (e ≡ ev.End) ⊥ (line_of d.reply) taken0 taken1)
       → (outcome ≡ Some (Run status.Memory) → (e ≡ ev.Rates) × Wants old new × (taken1 ≡ taken0) × (now ≡ mid))

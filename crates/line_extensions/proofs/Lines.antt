@@ -1,12 +1,11 @@
--- A run with a desk stops at the line at which a commit of the desk's storage failed, which is the last; and each line is what its step says.
+-- A run with an extension stops at the line where a commit of the extension's storage failed, which is the last; and each line is what its step says.
 use Rattle.std.proofs.Common.{◌≡◌, ◌↔◌, ◌<◌, inl, inr, List, [], ◌∷◌, ◌++◌, length, refl, sym, ap, ◌∙◌, subst, arith, Option, ℕ}
 use Rattle.std.specs.List.{AllByRecursion}
 use Rattle.line_runs.specs.Trace.{Lines, Reads}
 use Rattle.line_runs.specs.Lines.{IsCutOff}
 use Rattle.line_runs.specs.Runs.{EndsIn, Replayed}
 use Rattle.line_runs.specs.declared.status.Status.TheVariants as status
-use Rattle.line_runs.specs.declared.status.SideStatus.{SideStatus}
-use Rattle.line_runs.specs.declared.status.SideStatus.TheVariants.{Run, Stopped}
+use Rattle.line_runs.specs.declared.{status.SideStatus.SideStatus, status.SideStatus.TheVariants.Run, status.SideStatus.TheVariants.Stopped}
 use Rattle.line_extensions.specs.Desks.{side_lines}
 use Rattle.line_extensions.specs.SideTrace.{SideStep, Plain, Own, Broken, IsBroken}
 use Rattle.line_extensions.specs.declared.extension.Extension.{Ghosts}
@@ -39,7 +38,7 @@ module _ {D : Type 0} (l : Lines D) where
 
 -- == where a commit failed ==
 
--- a line at which one failed is the last
+-- a line where one failed is the last
 abbrev pub BrokenLast : {L : Type 0} → List (SideStep L) → Type 0
 BrokenLast [] = Unit {0}
 BrokenLast (Plain d ∷ rest) = BrokenLast rest
@@ -131,7 +130,7 @@ module _ {K T : Type 0} (k : Ghosts K T) where
   last_breaks Stopped number bytes end text done is =
       subst (λ (x : List Side). LastBreaks Stopped x) (sym is.0.only) (record { last = one_last is.0.last; stopped = λ e. is_broken is.0.last is.1; only = λ broke. refl })
 
-  -- a run is stopped at a line at which a commit failed, which is the last
+  -- a run is stopped at a line where a commit failed, which is the last
   pub record AtLast (outcome : SideStatus) (trace : List Side) : Type 0 where
     pub last : BrokenLast trace
     pub stops : (outcome ≡ Stopped) ↔ HasBroken trace

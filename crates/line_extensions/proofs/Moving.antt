@@ -1,4 +1,4 @@
--- What is so of each move that a desk's own definitions allow is so of each in a run.
+-- What is so of each move that an extension's own definitions allow is so of each in a run.
 use Rattle.std.proofs.Common.{List, [], ◌∷◌}
 use Rattle.bench_base.specs.declared.events.Event.{Event}
 use Rattle.node_turns.specs.declared.turn.Turn.{Turn}
@@ -6,9 +6,7 @@ use Rattle.line_extensions.specs.Trace.{StepRecord, Skipped, Did}
 use Rattle.line_extensions.specs.Desks.{World, world, Asks, DoesOne, Does}
 use Rattle.line_extensions.specs.Moves.{EachAsked, EachIn, EachMove}
 use Rattle.line_extensions.specs.SideTrace.{SideStep, Plain, Own, Broken}
-use Rattle.line_extensions.specs.declared.extension.Extension.{Ghosts}
-use Rattle.line_extensions.specs.declared.extension.Next.{Next}
-use Rattle.line_extensions.specs.declared.extension.Next.TheVariants.{Say, Stop}
+use Rattle.line_extensions.specs.declared.{extension.Extension.Ghosts, extension.Next.Next, extension.Next.TheVariants.Say, extension.Next.TheVariants.Stop}
 
 module _ {K T : Type 0} (k : Ghosts K T) {B : Type 0} (Steps : B → B → StepRecord → Turn → Type 0) (Moves : K → K → Type 0)
     (begins : (s t : K) (own : k.Own) (next : Next) → k.Begins s own next t → Moves s t) (goes : (s t : K) (turn : Turn) (next : Next) → k.Goes s turn next t → Moves s t)

@@ -1,4 +1,4 @@
--- What a run leaves of a desk's own storage, by what each of its commits left.
+-- What a run leaves of an extension's own storage, by what each of its commits left.
 use Rattle.std.proofs.Common.{◌≡◌, ◌⊎◌, ◌↔◌, inl, inr, ℕ, ◌≤◌, List, Option, Some, None, Result, Ok, Err, Bool, true, false, refl, sym, ap, ◌∙◌, subst, arith, true≢false}
 use Rattle.std.specs.Prelude.{IsSome, IsNone}
 use Rattle.bench_base.specs.Causes.{Rose}
@@ -12,8 +12,7 @@ use Rattle.node_acts.specs.RowList.{RowList, put}
 use Rattle.row_node.specs.Shows.{ShowsRows}
 use Rattle.row_store.specs.Commits.{CommitsRow}
 use Rattle.row_store.specs.Seen.{ReadsAs}
-use Rattle.line_runs.specs.declared.status.SideStatus.{SideStatus}
-use Rattle.line_runs.specs.declared.status.SideStatus.TheVariants.{Stopped}
+use Rattle.line_runs.specs.declared.{status.SideStatus.SideStatus, status.SideStatus.TheVariants.Stopped}
 use Rattle.line_extensions.specs.SideTrace.{SideStep}
 use Rattle.line_extensions.specs.Stops as stops
 use Rattle.line_extensions.specs.Stops.{HasBroken, RowCommit, DeskView, rows_seen, meters_seen, row_view}

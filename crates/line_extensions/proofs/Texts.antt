@@ -10,7 +10,7 @@ pub cut_off : (bytes text : List ℕ) (n : ℕ) → n < length bytes → bytes �
 cut_off bytes text n short is =
     (drop n bytes, sym is ∙ sym (take-append-drop n bytes), omega (arith, length-drop n bytes))
 
--- the element at k, and what stands before and behind it
+-- the element at k, and what is before and after it
 split_at : {X : Type 0} (xs : List X) (k : ℕ) (x : X) → slice_get xs k ≡ Some x → (rest : List X) × (xs ≡ take k xs ++ (x ∷ rest)) × (take (suc k) xs ≡ take k xs ++ x ∷ [])
 split_at [] k x at = cc
 split_at (y ∷ xs) zero x at = let same : y ≡ x = cc in (xs, ap (λ z. z ∷ xs) same, ap (λ z. z ∷ []) same)

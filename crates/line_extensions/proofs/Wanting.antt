@@ -1,18 +1,15 @@
--- What a desk wants first and last, and what the end of a run leaves of it.
+-- What an extension asks for first and last, and what the end of a run leaves of it.
 use Rattle.std.proofs.Common.{◌≡◌, ◌⊎◌, inl, inr, List, [], ◌∷◌, refl, sym, ap, subst, ◌∙◌}
 use Rattle.bench_base.specs.declared.events.Event.{Event}
 use Rattle.node_turns.specs.declared.turn.Turn.{Turn}
 use Rattle.line_runs.specs.declared.status.Status.TheVariants as status
-use Rattle.line_runs.specs.declared.status.SideStatus.{SideStatus}
-use Rattle.line_runs.specs.declared.status.SideStatus.TheVariants.{Run, Stopped}
+use Rattle.line_runs.specs.declared.{status.SideStatus.SideStatus, status.SideStatus.TheVariants.Run, status.SideStatus.TheVariants.Stopped}
 use Rattle.line_extensions.specs.Trace.{StepRecord}
 use Rattle.line_extensions.specs.Desks.{World, SideLeaves, Asks}
 use Rattle.line_extensions.specs.Wants.{IsStep}
-use Rattle.line_extensions.specs.declared.extension.Extension.{Ghosts}
-use Rattle.line_extensions.specs.declared.extension.Next.{Next}
-use Rattle.line_extensions.specs.declared.extension.Next.TheVariants.{Step, Say, Stop}
+use Rattle.line_extensions.specs.declared.{extension.Extension.Ghosts, extension.Next.Next, extension.Next.TheVariants.Step, extension.Next.TheVariants.Say, extension.Next.TheVariants.Stop}
 
--- == what is wanted, by its kind ==
+-- == what is asked for, by its kind ==
 
 abbrev pub IsSay : Next → Type 0
 IsSay (Step e) = ⊥
@@ -32,7 +29,7 @@ step_event z (Step e) = e
 step_event z Say = z
 step_event z Stop = z
 
--- what is wanted first is wanted last where it is no step
+-- what is asked for first is asked for last if it is no step
 pub ends_at : {B K T : Type 0} (k : Ghosts K T) (Steps : B → B → StepRecord → Turn → Type 0) (old new : World B K) (next : Next) (steps : List StepRecord) (last : Next) → Asks k Steps old new next steps last
     → (next ≡ Say) ⊎ (next ≡ Stop) → (steps ≡ []) × (last ≡ next) × (new ≡ old)
 ends_at k Steps old new next [] last asks none = (refl, asks.0, asks.1)
@@ -40,7 +37,7 @@ ends_at k Steps old new next (d ∷ rest) last asks none = absurd (no_step next 
 
 -- == the end of a run ==
 
--- it leaves the desk as the steps left it
+-- it leaves the extension as the steps left it
 pub desk_left : {B K : Type 0} (Wants : B → B → Type 0) (s : SideStatus) (behind now : World B K) → SideLeaves Wants s behind now → now.desk ≡ behind.desk
 desk_left Wants (Run status.Done) behind now is = ap (λ w. w.desk) is
 desk_left Wants (Run status.Words) behind now is = ap (λ w. w.desk) is

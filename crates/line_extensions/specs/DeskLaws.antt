@@ -1,10 +1,9 @@
--- That a bench with a desk has the lines of a clerk; and that what the bench did of it are the steps that were wanted.
+-- A bench with an extension has the lines of a line handler; and what the bench did of them are the steps that were asked for.
 use Rattle.std.proofs.Common.{◌≢◌, inl, inr, ℕ, List, [], ◌∷◌, ◌++◌, refl, sym, ap, subst}
 use Rattle.line_runs.specs.Trace.{FitsGrammar}
 use Rattle.line_runs.specs.Turns.{AreDone}
 use Rattle.line_runs.specs.declared.status.Status.TheVariants as status
-use Rattle.line_runs.specs.declared.status.SideStatus.{SideStatus}
-use Rattle.line_runs.specs.declared.status.SideStatus.TheVariants.{Run, Stopped}
+use Rattle.line_runs.specs.declared.{status.SideStatus.SideStatus, status.SideStatus.TheVariants.Run, status.SideStatus.TheVariants.Stopped}
 use Rattle.line_extensions.specs.Trace.{StepRecord, Skipped, Did}
 use Rattle.line_extensions.specs.Scripts.{script_grammar}
 use Rattle.line_extensions.specs.ScriptLaws as script
@@ -12,8 +11,7 @@ use Rattle.line_extensions.specs.SideTrace.{SideStep, Plain, Own, Broken, side_l
 use Rattle.line_extensions.specs.Desks.{World, world, SideLeaves, side_grammar, side_lines, Asks, DoesOne, Does}
 use Rattle.line_extensions.specs.Wants.{IsAlone}
 use Rattle.node_turns.specs.declared.turn.Turn.{Turn}
-use Rattle.line_extensions.specs.declared.extension.Extension.{Ghosts}
-use Rattle.line_extensions.specs.declared.extension.Next.{Next}
+use Rattle.line_extensions.specs.declared.{extension.Extension.Ghosts, extension.Next.Next}
 
 -- what says that events were done follows from what says that one step was done
 pub record IsChain {B : Type 0} (Steps : B → B → StepRecord → Turn → Type 0) (DidEvents : B → B → List StepRecord → Type 0) : Type 0 where
@@ -79,13 +77,16 @@ module _ {K T : Type 0} (k : Ghosts K T) {B : Type 0} (Steps : B → B → StepR
 
   -- `DidEvents` says that the bench did events by steps, one after the other
   module _ (DidEvents : B → B → List StepRecord → Type 0) (chain : IsChain Steps DidEvents) where
-    asked_steps : (old new : World B K) (next : Next) (steps : List StepRecord) (last : Next) → Asks k Steps old new next steps last → DidEvents old.scene new.scene steps
+    asked_steps : (old new : World B K) (next : Next) (steps : List StepRecord) (last : Next) → Asks k Steps old new next steps last
+        → DidEvents old.scene new.scene steps
     asked_steps old new next [] last asks = subst (λ (b : B). DidEvents old.scene b []) (ap (λ (w : World B K). w.scene) (sym asks.1)) (chain.nothing old.scene)
     asked_steps old new next (d ∷ rest) last asks =
-        chain.both old.scene asks.0.scene new.scene (d ∷ []) rest (chain.one old.scene asks.0.scene d asks.2.turn asks.2.did) (asked_steps asks.0 new asks.1 rest last asks.3)
+        chain.both old.scene asks.0.scene new.scene (d ∷ []) rest (chain.one old.scene asks.0.scene d asks.2.turn asks.2.did)
+        (asked_steps asks.0 new asks.1 rest last asks.3)
 
     one_step : (old new : World B K) (d : SideStep k.Own) → DoesOne k Steps old new d → DidEvents old.scene new.scene (steps_in d)
-    one_step old new (Plain (Skipped line)) did = subst (λ (b : B). DidEvents old.scene b []) (ap (λ (w : World B K). w.scene) (sym did)) (chain.nothing old.scene)
+    one_step old new (Plain (Skipped line)) did = subst (λ (b : B). DidEvents old.scene b []) (ap (λ (w : World B K). w.scene) (sym did))
+        (chain.nothing old.scene)
     one_step old new (Plain (Did line d)) did = chain.one old.scene new.scene d did.turn did.did
     one_step old new (Own line own steps texts) did = asked_steps (world old.scene did.did.desk) new did.did.first steps _ did.did.asks
     one_step old new (Broken line own steps) did = asked_steps (world old.scene did.desk) new did.first steps _ did.asks
@@ -93,4 +94,5 @@ module _ {K T : Type 0} (k : Ghosts K T) {B : Type 0} (Steps : B → B → StepR
     -- the bench did the events of the steps
     pub bench_part : (old new : World B K) (trace : List (SideStep k.Own)) → Does k Steps old new trace → DidEvents old.scene new.scene (steps_of trace)
     bench_part old new [] did = subst (λ (b : B). DidEvents old.scene b []) (ap (λ (w : World B K). w.scene) (sym did)) (chain.nothing old.scene)
-    bench_part old new (d ∷ rest) did = chain.both old.scene did.0.scene new.scene (steps_in d) (steps_of rest) (one_step old did.0 d did.1) (bench_part did.0 new rest did.2)
+    bench_part old new (d ∷ rest) did = chain.both old.scene did.0.scene new.scene (steps_in d) (steps_of rest) (one_step old did.0 d did.1)
+        (bench_part did.0 new rest did.2)

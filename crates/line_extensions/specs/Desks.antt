@@ -1,19 +1,16 @@
--- A bench beside which a desk stands, and what both did for the lines of a script. `Steps s t d turn` says that the bench, which was s and is t, did
--- this by one step, whose turn this is; and `Wants s t` what lack of memory in a `rates` leaves of it.
+-- A bench with an extension, and what both did for the lines of a script. `Steps s t d turn` says that the bench, which was s and is t, did
+-- this by one step with this turn. `Wants s t` says what is left of the bench if a `rates` runs out of memory.
 use Rattle.std.specs.Prelude.{◌≡◌, ◌⊎◌, ℕ, List, [], ◌∷◌}
 use Rattle.bench_base.specs.declared.events.Event.TheVariants as ev
 use Rattle.node_turns.specs.declared.turn.Turn.{Turn}
 use Rattle.line_runs.specs.Trace.{Grammar, Lines}
 use Rattle.line_runs.specs.declared.status.Status.TheVariants as status
-use Rattle.line_runs.specs.declared.status.SideStatus.{SideStatus}
-use Rattle.line_runs.specs.declared.status.SideStatus.TheVariants.{Run, Stopped}
+use Rattle.line_runs.specs.declared.{status.SideStatus.SideStatus, status.SideStatus.TheVariants.Run, status.SideStatus.TheVariants.Stopped}
 use Rattle.line_extensions.specs.Trace.{StepRecord, Skipped, Did}
 use Rattle.line_extensions.specs.Events.{IsLineOf}
 use Rattle.line_extensions.specs.Scripts.{script_grammar}
 use Rattle.line_extensions.specs.SideTrace.{SideStep, Plain, Own, Broken, side_line, side_text, SideIsOf, SideIsEnd, SideGoesOn, IsBroken}
-use Rattle.line_extensions.specs.declared.extension.Extension.{Ghosts}
-use Rattle.line_extensions.specs.declared.extension.Next.{Next}
-use Rattle.line_extensions.specs.declared.extension.Next.TheVariants.{Step, Say, Stop}
+use Rattle.line_extensions.specs.declared.{extension.Extension.Ghosts, extension.Next.Next, extension.Next.TheVariants.Step, extension.Next.TheVariants.Say, extension.Next.TheVariants.Stop}
 
 pub record World (B K : Type 0) : Type 0 where
   pub scene : B
@@ -34,7 +31,7 @@ SideLeaves Wants (Run status.TooLong) behind now = now ≡ behind
 SideLeaves Wants Stopped behind now = now ≡ behind
 
 module _ {K T : Type 0} (k : Ghosts K T) where
-  -- the lines of a script are those that are events, and the desk's own
+  -- the lines of a script are those that are events, and the extension's own
   abbrev pub side_grammar : Grammar
   side_grammar = record {
     IsEndLine = λ line. script_grammar.IsEndLine line;
@@ -55,14 +52,14 @@ module _ {K T : Type 0} (k : Ghosts K T) where
   }
 
   module _ {B : Type 0} (Steps : B → B → StepRecord → Turn → Type 0) where
-    -- the desk asked for a step, the bench did it and told it, and the desk went on
+    -- the extension asked for a step, the bench did it and reported it, and the extension went on
     pub record Asked (old new : World B K) (next : Next) (d : StepRecord) (more : Next) : Type 0 where
       pub asks : next ≡ Step d.event
       pub turn : Turn
       pub did : Steps old.scene new.scene d turn
       pub goes : k.Goes old.desk turn more new.desk
 
-    -- from what it wanted first to what it wants last these steps were done
+    -- from what it asked for first to what it asks for last these steps were done
     abbrev pub Asks : World B K → World B K → Next → List StepRecord → Next → Type 0
     Asks old new next [] last = (last ≡ next) × (new ≡ old)
     Asks old new next (d ∷ rest) last = (mid : World B K) × (more : Next) × Asked old mid next d more × Asks mid new more rest last
@@ -79,7 +76,7 @@ module _ {K T : Type 0} (k : Ghosts K T) where
       pub did : Steps old.scene new.scene d turn
       pub sees : k.Sees old.desk d.event turn new.desk
 
-    -- the answer is the desk's
+    -- the answer is the extension's
     pub record Answered (old new : World B K) (own : k.Own) (steps : List StepRecord) (texts : List (List ℕ)) : Type 0 where
       pub did : DidOwn old new own steps Say
       pub answer : texts ≡ k.texts new.desk

@@ -1,12 +1,10 @@
--- What is so of each move of a desk in a run: as it begins a line, goes on after a step, and sees an event.
+-- What is so of each move of an extension in a run: as it begins a line, goes on after a step, and sees an event.
 use Rattle.std.specs.Prelude.{List, [], ◌∷◌}
 use Rattle.node_turns.specs.declared.turn.Turn.{Turn}
 use Rattle.line_extensions.specs.Trace.{StepRecord, Skipped, Did}
 use Rattle.line_extensions.specs.Desks.{World, world, Asks, DoesOne, Does}
 use Rattle.line_extensions.specs.SideTrace.{SideStep, Plain, Own, Broken}
-use Rattle.line_extensions.specs.declared.extension.Extension.{Ghosts}
-use Rattle.line_extensions.specs.declared.extension.Next.{Next}
-use Rattle.line_extensions.specs.declared.extension.Next.TheVariants.{Say, Stop}
+use Rattle.line_extensions.specs.declared.{extension.Extension.Ghosts, extension.Next.Next, extension.Next.TheVariants.Say, extension.Next.TheVariants.Stop}
 
 module _ {K T : Type 0} (k : Ghosts K T) {B : Type 0} (Steps : B → B → StepRecord → Turn → Type 0) (Moves : K → K → Type 0) where
   -- of each step that it asked for
@@ -18,7 +16,8 @@ module _ {K T : Type 0} (k : Ghosts K T) {B : Type 0} (Steps : B → B → StepR
   abbrev pub EachIn : (old new : World B K) (x : SideStep k.Own) → DoesOne k Steps old new x → Type 0
   EachIn old new (Plain (Skipped line)) did = Unit {0}
   EachIn old new (Plain (Did line d)) did = Moves old.desk new.desk
-  EachIn old new (Own line own steps texts) did = Moves old.desk did.did.desk × EachAsked (world old.scene did.did.desk) new did.did.first steps Say did.did.asks
+  EachIn old new (Own line own steps texts) did = Moves old.desk did.did.desk
+      × EachAsked (world old.scene did.did.desk) new did.did.first steps Say did.did.asks
   EachIn old new (Broken line own steps) did = Moves old.desk did.desk × EachAsked (world old.scene did.desk) new did.first steps Stop did.asks
 
   -- of all lines

@@ -1,9 +1,9 @@
--- Steps of a run with a desk: for each line what the bench did by steps, and for an own line of the desk its answer too.
+-- Steps of a run with an extension: for each line what the bench did by steps, and for an own line of the extension its answer too.
 use Rattle.std.specs.Prelude.{ℕ, List, [], ◌∷◌, flat_map}
 use Rattle.line_runs.specs.Lines.{ended}
 use Rattle.line_extensions.specs.Trace.{StepRecord, TraceStep, done_in, line_in, text_for, IsOf, IsEnd, GoesOn}
 
--- a line that is skipped or is an event; an own line that was answered by these texts; and one at which a commit of the desk's storage failed
+-- a line that is skipped or is an event; an own line that was answered by these texts; and one where a commit of the extension's storage failed
 pub data SideStep (L : Type 0) : Type 0 where
   Plain : (d : TraceStep) → SideStep L
   Own : (line : List ℕ) (own : L) (steps : List StepRecord) (texts : List (List ℕ)) → SideStep L

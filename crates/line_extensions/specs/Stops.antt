@@ -1,4 +1,4 @@
--- What a run leaves of a desk's own storage: whether a commit failed and why, and what each image of the storage shows then.
+-- What a run leaves of an extension's own storage: whether a commit failed and why, and what each image of the storage shows then.
 use Rattle.std.specs.Prelude.{◌≡◌, ◌⊎◌, ◌↔◌, ℕ, Bool, true, false, List, [], ◌∷◌, Option, Some, None, IsSome}
 use Rattle.bench_base.specs.Causes.{Rose}
 use Rattle.nv_model.specs.Meters.{Meters, WasCut}
@@ -9,11 +9,10 @@ use Rattle.node_acts.specs.RowList.{RowList, put}
 use Rattle.row_node.specs.Shows.{ShowsRows}
 use Rattle.row_store.specs.Commits.{RowView}
 use Rattle.row_store.specs.Seen.{ReadsAs, seen_in}
-use Rattle.line_runs.specs.declared.status.SideStatus.{SideStatus}
-use Rattle.line_runs.specs.declared.status.SideStatus.TheVariants.{Stopped}
+use Rattle.line_runs.specs.declared.{status.SideStatus.SideStatus, status.SideStatus.TheVariants.Stopped}
 use Rattle.line_extensions.specs.SideTrace.{SideStep, Plain, Own, Broken}
 
--- one of the lines is one at which a commit of the desk's failed
+-- a commit of the extension's failed at one of the lines
 abbrev pub HasBroken : {L : Type 0} → List (SideStep L) → Type 0
 HasBroken [] = ⊥
 HasBroken (Plain d ∷ rest) = HasBroken rest
@@ -30,7 +29,7 @@ abbrev pub with_commit : {R : Type 0} → Option (RowCommit R) → RowList R →
 with_commit None rows = rows
 with_commit (Some c) rows = put rows c.cell c.kept
 
--- a desk as contracts see it: whether a commit of it failed, its storage, and what is kept of each cell
+-- an extension as contracts see it: whether a commit of it failed, its storage, and what is kept of each cell
 pub record DeskView (N : Type 0) : Type 0 where
   pub failed : Bool
   pub storage : N
@@ -60,7 +59,8 @@ module _ {N R : Type 0} (g : Ghosts N) (decoded : ℕ → List ℕ → Option R)
         × ShowsRows size cells (ReadsAs decoded) (with_commit (Some c) (rows_seen old)) i)
 
   -- Whether a commit failed, and which; why; and what each image of the storage shows, which has cells of this size.
-  pub record LeavesStorage {L : Type 0} (size cells : ℕ) (old new : DeskView N) (outcome : SideStatus) (trace : List (SideStep L)) (commit : Option (RowCommit R)) : Type 0 where
+  pub record LeavesStorage {L : Type 0} (size cells : ℕ) (old new : DeskView N) (outcome : SideStatus) (trace : List (SideStep L))
+      (commit : Option (RowCommit R)) : Type 0 where
     -- the run was stopped if and only if one failed
     pub stops : (outcome ≡ Stopped) ↔ HasBroken trace
     pub which : (outcome ≡ Stopped) ↔ IsSome commit

@@ -1,8 +1,7 @@
 -- Steps: what was done for a script of events, one step a line.
 use Rattle.std.specs.Prelude.{◌≡◌, ◌≢◌, ℕ, List, [], ◌∷◌}
-use Rattle.bench_base.specs.declared.events.Event.{Event}
+use Rattle.bench_base.specs.declared.{events.Event.Event, events.Reply.Reply}
 use Rattle.bench_base.specs.declared.events.Event.TheVariants as event
-use Rattle.bench_base.specs.declared.events.Reply.{Reply}
 use Rattle.script_text.specs.Grammar.{IsSkipped}
 use Rattle.script_text.specs.Texts.{text_of, IsWholeReply}
 use Rattle.line_runs.specs.Lines.{ended}

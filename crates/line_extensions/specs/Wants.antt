@@ -1,19 +1,18 @@
--- What a desk may want.
+-- What an extension may ask for.
 use Rattle.std.specs.Prelude.{◌≡◌, ◌≢◌, ◌⊎◌, ◌+◌, ℕ, List}
 use Rattle.bench_base.specs.declared.events.Event.{Event}
 use Rattle.bench_base.specs.declared.events.Event.TheVariants as ev
 use Rattle.bench_base.specs.Events.{IsWholeEvent}
 use Rattle.script_text.specs.Grammar.{Spells, IsSkipped}
 use Rattle.line_extensions.specs.Events.{IsLineOf}
-use Rattle.line_extensions.specs.declared.extension.Next.{Next}
-use Rattle.line_extensions.specs.declared.extension.Next.TheVariants.{Step, Say, Stop}
+use Rattle.line_extensions.specs.declared.{extension.Next.Next, extension.Next.TheVariants.Step, extension.Next.TheVariants.Say, extension.Next.TheVariants.Stop}
 
--- an event that sends nothing, whatever the storages tell: a scan of bytes
+-- an event that sends nothing, whatever the storages expose: a scan of bytes
 abbrev pub IsQuiet : Event → Type 0
 IsQuiet e = (scan : ℕ) × (bytes : List ℕ) × (e ≡ ev.ScanHex scan bytes)
 
--- A step, where so many more may follow: of a whole event, and of no `rates`, which may want memory. Only the last of a line may send a
--- message, so that a line sends one at most.
+-- A step, if so many more may follow: of a whole event, and of no `rates`, which may run out of memory. Only the last of a line may send
+-- a message, so that a line sends one at most.
 abbrev pub MayAsk : Next → ℕ → Type 0
 MayAsk (Step e) more = IsWholeEvent e × (e ≢ ev.Rates) × (IsQuiet e ⊎ (more ≡ 0))
 MayAsk Say more = Unit {0}

@@ -7,10 +7,10 @@ use bench_base::events::Event;
 use script_words::Line;
 use std::alloc::{AllocError, Global};
 
-/// What a desk wants next for a line of its own.
+/// What an extension asks for next for a line of its own.
 #[derive(Clone, Copy)]
 pub enum Next {
-    /// This event is to be done by a step, whose turn it is told.
+    /// This event is to be done by a step. The extension then hears the turn of that step.
     Step(Event),
     /// Its answer is to be written. The run goes on.
     Say,
@@ -18,15 +18,15 @@ pub enum Next {
     Stop,
 }
 
-/// Who has lines of its own. It does them by steps of the bench, each of which it asks for and is told of, and by commits of a storage of its
-/// own; and it answers each by texts.
+/// An extension has lines of its own. It does them by steps of the bench, which it asks for and hears of, and by commits of a storage of its
+/// own. It answers each line by texts.
 pub trait Extension {
     ghost use Rattle.std.specs.Prelude.{ℕ, List};
     ghost use Rattle.bench_base.specs.declared.events.Event.{Event};
     ghost use Rattle.node_turns.specs.declared.turn.Turn.{Turn};
     ghost use Rattle.line_extensions.specs.declared.extension.Next.{Next};
 
-    /// What it is told of a step.
+    /// What it hears of a step.
     type Heard: Hear;
 
     /// Its own lines.
@@ -35,16 +35,16 @@ pub trait Extension {
     /// The line is this own one.
     ghost IsOwn: { Own → List ℕ → Type 0 };
 
-    /// Memory may be wanting at it.
+    /// Memory may run out at it.
     ghost MayWant: { Own → Type 0 };
 
     /// It leaves this line to the bench.
     ghost Passes: { Self → List ℕ → Type 0 };
 
-    /// What it wants first for an own line, and what it is then.
+    /// What it asks for first for an own line, and what it is then.
     ghost Begins: { Self → Own → Next → Self → Type 0 };
 
-    /// What it wants after a step that it asked for, and what it is then.
+    /// What it asks for after a step that it asked for, and what it is then.
     ghost Goes: { Self → Turn → Next → Self → Type 0 };
 
     /// What it is after an event of a line that it left to the bench.

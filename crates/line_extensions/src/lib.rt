@@ -1,4 +1,4 @@
-//! A desk beside a bench: who has lines of its own in a script, and does them by steps that it asks for.
+//! An extension of a bench: it has lines of its own in a script, and does them by steps that it asks for.
 #![tactic(auto)]
 
 mod extension;

@@ -1,4 +1,4 @@
-//! The lines of a script that are events of a bench, or a desk's own.
+//! The lines of a script that are events of a bench, or an extension's own.
 ghost use Rattle.std.specs.Prelude.{◌≡◌, ◌≢◌, ◌+◌, ◌≤◌, ◌<◌, ℕ, List, flat_map, OnOk, OnErr, Some};
 ghost use Rattle.std.specs.Io.KnownBytes.{Appends};
 ghost use Rattle.script_text.specs.Texts.{IsWholeReply};
@@ -28,7 +28,7 @@ use std::alloc::{AllocError, Global};
 use std::marker::PhantomData;
 use text_streams::put_text;
 
-// Does the event of a line that the desk left to the bench, and writes its reply's line. A status is the run's end.
+// Does the event of a line that the extension left to the bench, and writes its reply's line. A status is the run's end.
 fn do_plain<B: Stepper, D: Extension, K: Sink>(
     alloc: Global,
     event: &Event,
@@ -69,7 +69,7 @@ fn do_plain<B: Stepper, D: Extension, K: Sink>(
     }
 }
 
-// Does the steps that the desk asks for, one after the other. What it wants last is no step.
+// Does the steps that the extension asks for, one after the other. What it asks for last is no step.
 fn ask_all<B: Stepper, D: Extension>(
     alloc: Global,
     first: Next,
@@ -92,7 +92,7 @@ fn ask_all<B: Stepper, D: Extension>(
     let mut next = first;
     while let Next::Step(event) = next {
         match B::step::<D::Heard>(alloc, &event, bench, rates, printer) {
-            // Only a `rates` wants memory, and a desk asks for none.
+            // Only a `rates` can run out of memory, and an extension asks for none.
             Err(_) => unreachable!(),
             Ok(told) => next = desk.go_on(&told),
         }
@@ -100,7 +100,7 @@ fn ask_all<B: Stepper, D: Extension>(
     next
 }
 
-// Writes the texts of the desk's answer, each in a line. Where that fails, a prefix of them was written.
+// Writes the texts of the extension's answer, each in a line. If that fails, a prefix of them was written.
 fn put_texts<D: Extension, K: Sink>(desk: &D, report: &mut K) -> Result<(), WriteFail>
     ensures ok { OnOk result (Appends (K.taken report.old) (K.taken report.new) (flat_map ended (D.texts desk.now))) }
     ensures err { OnErr result ((part : List ℕ) × Appends (K.taken report.old) (K.taken report.new) part
@@ -119,7 +119,7 @@ fn put_texts<D: Extension, K: Sink>(desk: &D, report: &mut K) -> Result<(), Writ
     Ok(())
 }
 
-/// Does the lines of a script that are events of a bench, or a desk's own.
+/// Does the lines of a script that are events of a bench, or an extension's own.
 pub struct AtBench<B, D> {
     of: PhantomData<(B, D)>,
 }

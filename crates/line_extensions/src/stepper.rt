@@ -31,13 +31,13 @@ pub trait Stepper {
     /// How many messages were sent in this run.
     ghost sent: { Scene → ℕ };
 
-    /// This was done by a step, whose turn this is.
+    /// This was done by a step with this turn.
     ghost Steps: { Scene → Scene → StepRecord → Turn → Type 0 };
 
-    /// What is left where a `rates` wanted memory.
+    /// What is left if a `rates` ran out of memory.
     ghost Wants: { Scene → Scene → Type 0 };
 
-    /// One event by a step, and what is told of it. Only a `rates` may want memory.
+    /// Does one event by a step, and reports it. Only a `rates` can run out of memory.
     fn step<T: Hear>(
         alloc: Global,
         event: &Event,

@@ -6,12 +6,10 @@ use Rattle.std.proofs.lemmas.Grind.{flat_map-append}
 use Rattle.std.proofs.lemmas.List.{length-append, length-take}
 use Rattle.std.proofs.KnownBytes.{Consumes-trans, Consumes-nil, Appends-trans, Appends-nil}
 use Rattle.std.specs.Io.KnownBytes.{Consumes, Appends, IsAtEnd}
-use Rattle.line_runs.specs.declared.lines.LineRead.{LineRead}
+use Rattle.line_runs.specs.declared.{lines.LineRead.LineRead, status.SideStatus.SideStatus, status.SideStatus.TheVariants.Run, status.SideStatus.TheVariants.Stopped}
 use Rattle.line_runs.specs.declared.lines.LineRead.TheVariants as read
 use Rattle.line_runs.specs.Lines.{IsOneLine, ended, IsLineIn, ReadsLine}
 use Rattle.line_runs.specs.declared.status.Status.TheVariants as status
-use Rattle.line_runs.specs.declared.status.SideStatus.{SideStatus}
-use Rattle.line_runs.specs.declared.status.SideStatus.TheVariants.{Run, Stopped}
 use Rattle.line_runs.specs.Trace.{Lines, Reads}
 use Rattle.line_runs.specs.Runs.{IsBadPlace, DidLast, RanOut, EndsIn, Replayed}
 use Rattle.line_runs.specs.Turns.{AreDone, DidLine, Refused, Wanted, LineEnd, Ended, Goes, Stops, Progress}
@@ -111,7 +109,7 @@ module _ {D : Type 0} (l : Lines D) where
     ended_so : (s : SideStatus) (old new : B) (trace : List D) → s ≢ Run status.Memory → Does old new trace → Ended Does Leaves s old new trace
     ended_so s old new trace other did = record { behind = new; did = did; leaves = chain.rests s new other }
 
-    -- the run goes on behind a line end
+    -- the run goes on after a line end
     pub line_goes : (number : ℕ) (old new : B) (left0 left1 taken0 taken1 : Option (List ℕ)) (line : List ℕ)
         → LineTaken left0 left1 line true → LineEnd l Does Leaves number line None old new taken0 taken1 → Goes l Does old new left0 left1 taken0 taken1
     line_goes number old new left0 left1 taken0 taken1 line t (LineEnd.refused r) = cc (r.outcome_is)
@@ -164,7 +162,7 @@ module _ {D : Type 0} (l : Lines D) where
       did = ended_so Stopped old new (d.trace_step ∷ []) (λ e. cc) d.did;
     }
 
-    -- the run ends since what stands in the line's place is bad
+    -- the run ends since the bytes in the line's place are bad
     pub stops_bad : (number : ℕ) → number ≤ 1000000 → (b : B) (left0 left1 taken : Option (List ℕ)) (bytes : List ℕ) → Consumes left0 left1 bytes → IsBadPlace l bytes (IsAtEnd left1)
         → Stops l Does Leaves (Run (status.Script number)) number b b left0 left1 taken taken
     stops_bad number few b left0 left1 taken bytes consumed bad = record {
@@ -229,7 +227,7 @@ module _ {D : Type 0} (l : Lines D) where
     line_stops outcome number few old new left0 left1 taken0 taken1 line is_ended t (LineEnd.wanted w) = wanted_stops outcome number few old new left0 left1 taken0 taken1 line is_ended t w
     line_stops outcome number few old new left0 left1 taken0 taken1 line is_ended t (LineEnd.refused r) = refused_stops outcome number few old new left0 left1 taken0 taken1 line is_ended t r
 
-    -- the run ends since the script has ended behind the line
+    -- the run ends since the script has ended after the line
     pub line_runs_out : (outcome : SideStatus) (number : ℕ) → number ≤ 1000000 → (number < 1000000 → outcome ≡ Run (status.Script (number + 1))) → (number ≡ 1000000 → outcome ≡ Run status.TooLong)
         → (old new : B) (left0 left1 taken0 taken1 : Option (List ℕ)) (line : List ℕ)
         → LineTaken left0 left1 line false → LineEnd l Does Leaves number line None old new taken0 taken1 → Stops l Does Leaves outcome number old new left0 left1 taken0 taken1

@@ -1,4 +1,4 @@
--- Steps: what was done for a script, one step a line. What a line may be, what a step is and what it writes is the clerk's own.
+-- Steps: what was done for a script, one step a line. What a line may be, what a step is and what it writes is the line handler's own.
 use Rattle.std.specs.Prelude.{ℕ, ◌≤◌, List, length, flat_map}
 use Rattle.line_runs.specs.Lines.{IsOneLine, ended}
 
@@ -9,10 +9,10 @@ pub record Grammar : Type 1 where
   -- a line after which a run goes on
   pub IsPassing : List ℕ → Type 0
   pub IsBad : List ℕ → Type 0
-  -- a line at which memory may run out
+  -- memory may run out at the line
   pub MayWant : List ℕ → Type 0
 
--- no line is two of them, but that memory may be wanting at one behind which a run goes on
+-- no line is two of them, except that memory may run out at a line after which a run goes on
 pub record IsGrammar (g : Grammar) : Type 0 where
   pub end_short : (line : List ℕ) → g.IsEndLine line → length line ≤ 600
   pub end_not_passing : (line : List ℕ) → g.IsEndLine line → g.IsPassing line → ⊥
@@ -20,7 +20,7 @@ pub record IsGrammar (g : Grammar) : Type 0 where
   pub passing_not_bad : (line : List ℕ) → g.IsPassing line → g.IsBad line → ⊥
   pub end_wants_none : (line : List ℕ) → g.IsEndLine line → g.MayWant line → ⊥
 
--- how the steps of a clerk are read and written
+-- how the steps of a line handler are read and written
 pub record Lines (D : Type 0) : Type 1 where
   pub grammar : Grammar
   pub line_in : D → List ℕ
@@ -28,7 +28,7 @@ pub record Lines (D : Type 0) : Type 1 where
   pub text_for : D → List ℕ
   -- the line is what the step says it is
   pub IsOf : D → Type 0
-  -- it is the step of `end`; the run goes on after it; it was broken off, since a commit of a storage of the clerk's failed
+  -- it is the step of `end`; the run goes on after it; it was broken off, since a commit of a storage of the line handler's failed
   pub IsEnd : D → Type 0
   pub GoesOn : D → Type 0
   pub IsBroken : D → Type 0

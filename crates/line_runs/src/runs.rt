@@ -16,7 +16,7 @@ use text_streams::BufSource;
 /// The most lines that are read.
 const LINES: u32 = 1_000_000;
 
-// How a run ends where the script has ended behind the line of this number.
+// How a run ends if the script has ended after the line of this number.
 fn missing_after(number: u32) -> SideStatus
     requires { number ≤ 1000000 }
     ensures missing { number < 1000000 → result ≡ SideStatus.Run (Status.Script (number + 1)) }

@@ -2,15 +2,13 @@
 use Rattle.std.proofs.Common.{◌≡◌, ◌⊎◌, inl, inr, ℕ, ◌+◌, List, [], ◌∷◌, length, Option, Some, None, Bool, true, false, ◌==◌, refl, sym, ap, ◌∙◌, subst}
 use Rattle.std.specs.Prelude.{codes}
 use Rattle.std.proofs.lemmas.Option.{same_Some}
-use Rattle.bench_base.specs.declared.events.Event.{Event}
-use Rattle.bench_base.specs.declared.events.Reply.{Reply}
+use Rattle.bench_base.specs.declared.{events.Event.Event, events.Reply.Reply}
 use Rattle.bench_base.specs.Questions.{IsAccepted}
 use Rattle.node_turns.specs.declared.turn.Turn.{Turn}
 use Rattle.line_extensions.specs.Trace.{StepRecord, Skipped, Did}
 use Rattle.line_extensions.specs.Desks.{World, world, Asks, Does}
 use Rattle.line_extensions.specs.SideTrace.{SideStep, Plain, Own, Broken}
-use Rattle.line_extensions.specs.declared.extension.Next.{Next}
-use Rattle.line_extensions.specs.declared.extension.Next.TheVariants.{Step, Say, Stop}
+use Rattle.line_extensions.specs.declared.{extension.Next.Next, extension.Next.TheVariants.Step, extension.Next.TheVariants.Say, extension.Next.TheVariants.Stop}
 use Rattle.mail_manifest.specs.Answers.{IsTold, AreScanned, IsChecked, IsAnsweredOn, IsAnsweredBare, IsAnswered, AreAnswered}
 use Rattle.mail_manifest.specs.Causes.{Either, Finds}
 use Rattle.mail_manifest.specs.CheckerDesk.{checker_desk}
@@ -19,15 +17,12 @@ use Rattle.scan_laws.proofs.Accepting.{accepted_by}
 use Rattle.mail_manifest.specs.Listings.{Listing, opened, with_mark, code_of}
 use Rattle.mail_manifest.specs.Texts.{said_texts, open_text, piece_text, code_text, yes_text, no_piece_text}
 use Rattle.mail_manifest.specs.View.{listing_of, said_of}
-use Rattle.mail_manifest.specs.declared.checker.Checker.{Checker}
-use Rattle.mail_manifest.specs.declared.opening.ManifestLine.{ManifestLine}
-use Rattle.mail_manifest.specs.declared.opening.ManifestLine.TheVariants.{Open, Piece, Code, Check}
-use Rattle.mail_manifest.specs.declared.answer.Answer.{Answer}
+use Rattle.mail_manifest.specs.declared.{checker.Checker.Checker, opening.ManifestLine.ManifestLine, opening.ManifestLine.TheVariants.Open, opening.ManifestLine.TheVariants.Piece, opening.ManifestLine.TheVariants.Code, opening.ManifestLine.TheVariants.Check, answer.Answer.Answer}
 use Rattle.mail_manifest.specs.declared.answer.Answer.TheVariants as answers
 use Rattle.mail_manifest.proofs.Judging.{either_by, either_any, yes_is_good}
 use Rattle.line_extensions.proofs.Wanting.{IsSay, step_event, ends_at}
 
--- what is wanted, by its kind
+-- the next request, by its kind
 abbrev IsStop : Next → Type 0
 IsStop (Step e) = ⊥
 IsStop Say = ⊥

@@ -1,4 +1,4 @@
--- A manifest whose check was answered yes holds by the ledger.
+-- A manifest holds by the ledger if its check was answered yes.
 use Rattle.std.proofs.Common.{◌≡◌, inl, inr, ℕ, ◌+◌, ◌-◌, ◌<◌, ◌≤◌, List, [], ◌∷◌, ◌++◌, length, Option, Some, None, Result, refl, sym, ap, ◌∙◌, subst, arith}
 use Rattle.std.specs.Prelude.{Contains, unwrap_or}
 use Rattle.std.proofs.lemmas.Bool.{cases_eq}
@@ -6,8 +6,7 @@ use Rattle.std.proofs.lemmas.Grind.{flat_map-append}
 use Rattle.std.proofs.lemmas.List.Elements.{Contains-append_left, Contains-append_right}
 use Rattle.std.proofs.lemmas.Option.{same_Some}
 use Rattle.bench_base.specs.declared.events.Event.TheVariants as ev
-use Rattle.bench_base.specs.declared.ledger.Commit.TheVariants.{Accepted}
-use Rattle.bench_base.specs.declared.refusals.MarkFault.{MarkFault}
+use Rattle.bench_base.specs.declared.{ledger.Commit.TheVariants.Accepted, refusals.MarkFault.MarkFault}
 use Rattle.bench_base.specs.Ledger.{Ledger, counted}
 use Rattle.bench_base.specs.Rules.{editions}
 use Rattle.bench_base.specs.Scans.{accepted}
@@ -30,8 +29,7 @@ use Rattle.script_replay.specs.Trace.{ledger_after}
 use Rattle.mail_manifest.specs.Answers.{AreAccepted, IsGood, IsAnswered, AreAnswered}
 use Rattle.mail_manifest.specs.Holds.{IsMail, debit_in, debited_in_all, ManifestHolds, IsYes, IsGoodBehind, YesHolds}
 use Rattle.mail_manifest.specs.Listings.{Listing, mark_at, postage_in, postage_of, postage_in_all}
-use Rattle.mail_manifest.specs.declared.opening.ManifestLine.{ManifestLine}
-use Rattle.mail_manifest.specs.declared.opening.ManifestLine.TheVariants.{Check}
+use Rattle.mail_manifest.specs.declared.{opening.ManifestLine.ManifestLine, opening.ManifestLine.TheVariants.Check}
 use Rattle.mail_manifest.proofs.Judging.{yes_told, none_is_no_yes}
 
 -- == the scans of a check ==
@@ -92,7 +90,7 @@ module _ (today : Editions editions) (τ : Tariff) (H : Ledger) (history : Histo
             (subst (λ (q : ℕ). Contains (counted H) (Accepted is.mark.device q k)) (sym piece) (subst (λ (e : ℕ). Contains (counted H) (Accepted e p k)) (sym device) within)),
       )
 
-  -- a manifest whose pieces are mail, each under its own number
+  -- a manifest with pieces that are mail, each under its own number
   module _ (m : Listing) (mail : (at : ℕ) → at < length m.marks → IsMail (m.opening.first + at) (mark_at m at) H) where
     differ : (d p i j : ℕ) → i < length m.marks → j < length m.marks → IsOfPiece d p (mark_at m i) → IsOfPiece d p (mark_at m j) → i ≡ j
     differ d p i j first second of of' =
@@ -115,7 +113,7 @@ split_answers m (Broken line own steps ∷ a) rest after answers = absurd answer
 
 module _ (today : Editions editions) (τ : Tariff) (H : Ledger) where
   module _ (all : List StepRecord) (did : AllMoved τ H all) (history : History τ editions (ledger_after τ H all)) where
-    -- a good manifest holds by the ledger behind its scans and whatever was done else
+    -- a good manifest holds by the ledger after its scans and all other steps
     good_holds : (m : Listing) (code : List ℕ) (steps : List StepRecord) → ((d : StepRecord) → Contains steps d → Contains all d) → IsGood m code steps → ManifestHolds m (ledger_after τ H all)
     good_holds m code steps among good =
         let mail = λ (at : ℕ) (lt : at < length m.marks).

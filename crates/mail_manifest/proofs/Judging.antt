@@ -29,7 +29,7 @@ either_any false f h either = h refl either
 one_text : (a b : List ℕ) → a ∷ [] ≡ b ∷ [] → a ≡ b
 one_text a b is = cc
 
--- the byte behind `manifest `
+-- the byte after `manifest `
 abbrev tenth : List ℕ → ℕ
 tenth text = get_or text 9 0
 
@@ -84,7 +84,7 @@ module _ (m : Listing) where
     | inr other ↦ absurd (other_text m.opening.count m.opening.total (no_piece_text number d.reply) (piece_tenth number d.reply) (sym other.2 ∙ is))
   ]
 
-  -- a yes tells the numbers of this manifest
+  -- a yes has the numbers of this manifest
   scanned_yes : (number : ℕ) (steps : List StepRecord) (texts : List (List ℕ)) → AreScanned m number steps texts → IsYes texts → texts ≡ yes
   scanned_yes number [] texts scanned is = absurd scanned
   scanned_yes number (d ∷ rest) texts scanned is = elim scanned.1 [
@@ -119,7 +119,7 @@ module _ (m : Listing) where
   not_yes count total cause (Read n is) same = other_text count total (unread_text n) (unread_tenth n) (sym (ap (λ (s : Answer). said_texts s) is) ∙ same)
   not_yes count total cause (Summed n is) same = other_text count total (no_total_text n) (total_tenth n) (sym (ap (λ (s : Answer). said_texts s) is) ∙ same)
 
-  -- where there is none
+  -- what holds if there is no cause
   record IsSound (code : List ℕ) : Type 0 where
     complete : length m.marks ≡ m.opening.count
     coded : code ≡ code_of m

@@ -1,4 +1,4 @@
--- The marks of a manifest, one behind the other in its text.
+-- The marks of a manifest, one after the other in its text.
 use Rattle.std.proofs.Common.{◌≡◌, ℕ, zero, suc, ◌+◌, ◌*◌, ◌<◌, ◌≤◌, List, [], ◌∷◌, ◌++◌, length, take, drop, get_or, refl, sym, ap, ◌∙◌, arith, take-append-drop, add-one}
 use Rattle.std.proofs.lemmas.List.{take_all, take-append-le, drop-append-le, length-drop}
 use Rattle.std.proofs.Math.Seq.{drop-drop}
@@ -23,7 +23,7 @@ added (suc n) bytes mark long size =
 pub marks_added : (n : ℕ) (bytes mark : List ℕ) → length bytes ≡ 64 * n → length mark ≡ 64 → marks_in (n + 1) (bytes ++ mark) ≡ marks_in n bytes ++ mark ∷ []
 marks_added n bytes mark long size = ap (λ (k : ℕ). marks_in k (bytes ++ mark)) (add-one n) ∙ added n bytes mark long size
 
--- one behind the other they are the bytes again
+-- one after the other they are the bytes again
 pub marks_again : (n : ℕ) (bytes : List ℕ) → length bytes ≡ 64 * n → marks_text (marks_in n bytes) ≡ bytes
 marks_again zero [] long = refl
 marks_again zero (b ∷ bytes) long = absurd (omega (arith, long))
@@ -38,7 +38,7 @@ mark_is (suc n) (suc at) bytes lt =
     let place : 64 + 64 * at ≡ 64 * suc at = omega arith in
     mark_is n at (drop 64 bytes) (omega (arith, lt)) ∙ ap (λ (l : List ℕ). take 64 l) (drop-drop (64 * at) 64 bytes ∙ ap (λ (k : ℕ). drop k bytes) place)
 
--- == in the text of a manifest, behind what it was opened with ==
+-- == in the text of a manifest, after what it was opened with ==
 
 pub rest_long : (n : ℕ) (text : List ℕ) → length text ≡ 14 + 64 * n → length (drop 14 text) ≡ 64 * n
 rest_long n text long = length-drop 14 text ∙ omega (arith, long)

@@ -6,8 +6,7 @@ use Rattle.script_words.specs.Words.{words_in, hex_word, given_word}
 use Rattle.script_words.proofs.Splits.{HasFirst, words_in_some}
 use Rattle.script_text.proofs.ReadBack.{number_in, number_again, given_in, given_again, given_is}
 use Rattle.mail_manifest.specs.ManifestLines.{IsInRange, line_words}
-use Rattle.mail_manifest.specs.declared.opening.ManifestLine.{ManifestLine}
-use Rattle.mail_manifest.specs.declared.opening.ManifestLine.TheVariants.{Open, Piece, Code, Check}
+use Rattle.mail_manifest.specs.declared.{opening.ManifestLine.ManifestLine, opening.ManifestLine.TheVariants.Open, opening.ManifestLine.TheVariants.Piece, opening.ManifestLine.TheVariants.Code, opening.ManifestLine.TheVariants.Check}
 
 -- a word is one number
 pub one_number : (c d : ℕ) → c < 2 ^ 64 → d < 2 ^ 64 → decimal c ≡ decimal d → c ≡ d

@@ -7,8 +7,7 @@ use Rattle.ledger_terms.specs.Editions.{Editions}
 use Rattle.run_laws.proofs.Going.{all_moved}
 use Rattle.bench.specs.Benches.{Nodes}
 use Rattle.line_runs.specs.declared.status.Status.TheVariants as status
-use Rattle.line_runs.specs.declared.status.SideStatus.{SideStatus}
-use Rattle.line_runs.specs.declared.status.SideStatus.TheVariants.{Run, Stopped}
+use Rattle.line_runs.specs.declared.{status.SideStatus.SideStatus, status.SideStatus.TheVariants.Run, status.SideStatus.TheVariants.Stopped}
 use Rattle.line_runs.specs.Runs.{EndsIn, Replayed}
 use Rattle.line_extensions.specs.Trace.{Skipped, Did}
 use Rattle.line_extensions.specs.Desks.{world, side_lines}
@@ -23,8 +22,7 @@ use Rattle.mail_manifest.specs.CheckerDesk.{checker_desk}
 use Rattle.mail_manifest.specs.Listings.{Listing}
 use Rattle.mail_manifest.specs.Ran.{DidManifest}
 use Rattle.mail_manifest.specs.View.{listing_of}
-use Rattle.mail_manifest.specs.declared.checker.Checker.{Checker}
-use Rattle.mail_manifest.specs.declared.opening.ManifestLine.{ManifestLine}
+use Rattle.mail_manifest.specs.declared.{checker.Checker.Checker, opening.ManifestLine.ManifestLine}
 use Rattle.mail_manifest.proofs.Answering.{all_answered}
 use Rattle.mail_manifest.proofs.Holding.{yes_holds}
 use Rattle.line_extensions.proofs.Wanting.{desk_left, no_words}

@@ -8,9 +8,7 @@ use Rattle.mail_manifest.specs.Courses.{scan_of}
 use Rattle.mail_manifest.specs.Listings.{Listing, opened, with_mark, code_of, AllRead, postage_in_all}
 use Rattle.mail_manifest.specs.ManifestLines.{IsManifestLine}
 use Rattle.mail_manifest.specs.Texts.{said_texts, open_text, piece_text, code_text, yes_text, no_piece_text}
-use Rattle.mail_manifest.specs.declared.opening.ManifestLine.{ManifestLine}
-use Rattle.mail_manifest.specs.declared.opening.ManifestLine.TheVariants.{Open, Piece, Code, Check}
-use Rattle.mail_manifest.specs.declared.answer.Answer.{Answer}
+use Rattle.mail_manifest.specs.declared.{opening.ManifestLine.ManifestLine, opening.ManifestLine.TheVariants.Open, opening.ManifestLine.TheVariants.Piece, opening.ManifestLine.TheVariants.Code, opening.ManifestLine.TheVariants.Check, answer.Answer.Answer}
 
 -- it was answered so without a scan, and the manifest is this one then
 pub record IsTold (answer : List ℕ) (left : Option Listing) (steps : List StepRecord) (texts : List (List ℕ)) (after : Option Listing) : Type 0 where
@@ -18,13 +16,14 @@ pub record IsTold (answer : List ℕ) (left : Option Listing) (steps : List Step
   pub texts_are : texts ≡ answer ∷ []
   pub leaves : after ≡ left
 
--- The pieces from this number on were scanned in order, each under its own number. The first that was not accepted ended it, with its text;
--- where there was none the manifest is good.
+-- The pieces from this number on were scanned in order, each under its own number. The first that was not accepted ended it, with its text; if every
+-- piece was accepted the manifest is good.
 abbrev pub AreScanned : Listing → ℕ → List StepRecord → List (List ℕ) → Type 0
 AreScanned m number [] texts = ⊥
 AreScanned m number (d ∷ rest) texts =
     (d.event ≡ scan_of m number)
-    × ((IsAccepted d.reply × Either (number == length m.marks) ((rest ≡ []) × (texts ≡ yes_text m.opening.count m.opening.total ∷ [])) (AreScanned m (number + 1) rest texts))
+    × ((IsAccepted d.reply × Either (number == length m.marks) ((rest ≡ []) × (texts ≡ yes_text m.opening.count m.opening.total ∷ []))
+    (AreScanned m (number + 1) rest texts))
     ⊎ ((IsAccepted d.reply → ⊥) × (rest ≡ []) × (texts ≡ no_piece_text number d.reply ∷ [])))
 
 -- it was refused for the first cause that there is; otherwise its pieces were scanned
@@ -71,7 +70,7 @@ abbrev pub IsAnswered : Option Listing → ManifestLine → List StepRecord → 
 IsAnswered (Some m) own steps texts after = IsAnsweredOn m own steps texts after
 IsAnswered None own steps texts after = IsAnsweredBare own steps texts after
 
--- each line in turn; one that is left to the bench is none about the manifest, and no line is broken off
+-- each line in turn; a line that is left to the bench is not about the manifest, and no line is broken off
 abbrev pub AreAnswered : Option Listing → List (SideStep ManifestLine) → Option Listing → Type 0
 AreAnswered m [] after = after ≡ m
 AreAnswered m (Plain (Skipped line) ∷ rest) after = AreAnswered m rest after

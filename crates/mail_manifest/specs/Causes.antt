@@ -18,6 +18,6 @@ FindsMarks m cause = (AllRead m × FindsTotal m cause) ⊎ ((number : ℕ) × Is
 abbrev pub FindsCode : Listing → List ℕ → Option Answer → Type 0
 FindsCode m code cause = ((code ≡ code_of m) × FindsMarks m cause) ⊎ ((code ≡ code_of m → ⊥) × (cause ≡ Some answers.NoCode))
 
--- the first cause for which a check of this code refuses the manifest: its count, its code, a mark that does not read, or its total
+-- the first cause to refuse the manifest in a check of this code: its count, its code, a mark that does not read, or its total
 abbrev pub Finds : Listing → List ℕ → Option Answer → Type 0
 Finds m code cause = Either (length m.marks == m.opening.count) (FindsCode m code cause) (cause ≡ Some (answers.NoCount (length m.marks)))

@@ -8,8 +8,7 @@ use Rattle.mail_manifest.specs.Texts.{said_texts}
 use Rattle.mail_manifest.specs.View.{listing_of, said_of}
 use Rattle.mail_manifest.specs.Wanting.{MayWant}
 use Rattle.mail_manifest.specs.Waits.{pieces_left}
-use Rattle.mail_manifest.specs.declared.checker.Checker.{Checker}
-use Rattle.mail_manifest.specs.declared.opening.ManifestLine.{ManifestLine}
+use Rattle.mail_manifest.specs.declared.{checker.Checker.Checker, opening.ManifestLine.ManifestLine}
 
 abbrev pub checker_desk : Ghosts Checker Reply
 checker_desk = record {

@@ -1,18 +1,13 @@
 -- What the checker does for an own line: at first, and after each scan.
 use Rattle.std.specs.Prelude.{◌≡◌, ◌⊎◌, ℕ, ◌+◌, ◌-◌, List, length, Option, Some, None, ◌==◌}
-use Rattle.bench_base.specs.declared.events.Event.{Event}
+use Rattle.bench_base.specs.declared.{events.Event.Event, events.Reply.Reply}
 use Rattle.bench_base.specs.declared.events.Event.TheVariants as ev
-use Rattle.bench_base.specs.declared.events.Reply.{Reply}
 use Rattle.bench_base.specs.Questions.{IsAccepted}
-use Rattle.line_extensions.specs.declared.extension.Next.{Next}
-use Rattle.line_extensions.specs.declared.extension.Next.TheVariants.{Step, Say}
+use Rattle.line_extensions.specs.declared.{extension.Next.Next, extension.Next.TheVariants.Step, extension.Next.TheVariants.Say}
 use Rattle.mail_manifest.specs.Causes.{Either, Finds}
 use Rattle.mail_manifest.specs.Listings.{Listing, opened, with_mark, mark_at, code_of}
 use Rattle.mail_manifest.specs.View.{listing_of, said_of}
-use Rattle.mail_manifest.specs.declared.checker.Checker.{Checker}
-use Rattle.mail_manifest.specs.declared.opening.ManifestLine.{ManifestLine}
-use Rattle.mail_manifest.specs.declared.opening.ManifestLine.TheVariants.{Open, Piece, Code, Check}
-use Rattle.mail_manifest.specs.declared.answer.Answer.{Answer}
+use Rattle.mail_manifest.specs.declared.{checker.Checker.Checker, opening.ManifestLine.ManifestLine, opening.ManifestLine.TheVariants.Open, opening.ManifestLine.TheVariants.Piece, opening.ManifestLine.TheVariants.Code, opening.ManifestLine.TheVariants.Check, answer.Answer.Answer}
 use Rattle.mail_manifest.specs.declared.answer.Answer.TheVariants as answers
 
 -- the scan of the piece of this number, counted from 1: of its mark, under the manifest's first number and those that follow it
@@ -80,7 +75,7 @@ Begins old own next new = BeginsWith (listing_of old) own next new
 
 -- == after a scan ==
 
--- the next piece is scanned where this one was accepted; behind the last one the manifest is good
+-- if this piece was accepted the next one is scanned; after the last one the manifest is good
 abbrev pub GoesBy : Listing → ℕ → Reply → Next → Checker → Type 0
 GoesBy m number reply next new =
     (IsAccepted reply × Either (number == length m.marks) (Answers (yes_of m) (Some m) next new) (Scans m (number + 1) next new))

@@ -3,7 +3,7 @@ use Rattle.std.specs.Prelude.{ℕ, zero, suc, List, [], ◌∷◌, take, drop, O
 use Rattle.mail_manifest.specs.Listings.{Listing, listing}
 use Rattle.mail_manifest.specs.declared.manifest.Manifest.{Manifest}
 
--- so many marks, one behind the other
+-- so many marks, one after the other
 abbrev pub marks_in : ℕ → List ℕ → List (List ℕ)
 marks_in zero bytes = []
 marks_in (suc n) bytes = take 64 bytes ∷ marks_in n (drop 64 bytes)

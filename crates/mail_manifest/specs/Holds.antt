@@ -1,8 +1,6 @@
--- What is promised of a manifest whose check was answered yes, by a ledger.
+-- What is promised of a manifest with a check that was answered yes, by a ledger.
 use Rattle.std.specs.Prelude.{◌≡◌, ◌<◌, ℕ, ◌+◌, List, [], ◌∷◌, ◌++◌, length, Some, None, Result, Ok, Err, sum_by, unwrap_or, Contains}
-use Rattle.bench_base.specs.declared.ledger.Commit.{Commit}
-use Rattle.bench_base.specs.declared.ledger.Commit.TheVariants.{Accepted}
-use Rattle.bench_base.specs.declared.refusals.MarkFault.{MarkFault}
+use Rattle.bench_base.specs.declared.{ledger.Commit.Commit, ledger.Commit.TheVariants.Accepted, refusals.MarkFault.MarkFault}
 use Rattle.bench_base.specs.Ledger.{Ledger, IsReleased, counted}
 use Rattle.line_extensions.specs.Trace.{StepRecord}
 use Rattle.line_extensions.specs.SideTrace.{SideStep, Own}
@@ -13,10 +11,9 @@ use Rattle.scan_laws.specs.Acceptances.{IsOfPiece}
 use Rattle.mail_manifest.specs.Answers.{AreAnswered}
 use Rattle.mail_manifest.specs.Listings.{Listing, mark_at}
 use Rattle.mail_manifest.specs.Texts.{yes_text}
-use Rattle.mail_manifest.specs.declared.opening.ManifestLine.{ManifestLine}
-use Rattle.mail_manifest.specs.declared.opening.ManifestLine.TheVariants.{Check}
+use Rattle.mail_manifest.specs.declared.{opening.ManifestLine.ManifestLine, opening.ManifestLine.TheVariants.Check}
 
--- the bytes are a released mark, whose piece is accepted under this number and no other, and which shows the postage of its debit
+-- the bytes are a released mark, its piece is accepted under this number and no other, and it shows the postage of its debit
 pub record IsMail (number : ℕ) (bytes : List ℕ) (H : Ledger) : Type 0 where
   pub mark : Mark
   pub code : List ℕ
@@ -43,11 +40,11 @@ pub record ManifestHolds (m : Listing) (H : Ledger) : Type 0 where
   pub differ : (d p i j : ℕ) → i < length m.marks → j < length m.marks → IsOfPiece d p (mark_at m i) → IsOfPiece d p (mark_at m j) → i ≡ j
   pub total : m.opening.total ≡ debited_in_all m (counted H)
 
--- the answer is yes, whatever count and total it tells
+-- the answer is yes, with any count and total
 abbrev pub IsYes : List (List ℕ) → Type 0
 IsYes texts = (count total : ℕ) × (texts ≡ yes_text count total ∷ [])
 
--- behind these lines there was a manifest of which the answer tells, and it holds by the ledger
+-- after these lines there was a manifest with the numbers of the answer, and it holds by the ledger
 pub record IsGoodBehind (before : List (SideStep ManifestLine)) (texts : List (List ℕ)) (H : Ledger) : Type 0 where
   pub listing : Listing
   pub here : AreAnswered None before (Some listing)

@@ -15,7 +15,8 @@ first_is line rest is = (_, sym (joined_words_in line) ∙ ap (λ (ws : List (Li
 first_alone : (tail line : List ℕ) → line ≡ 109 ∷ tail → IsAlone line
 first_alone tail line is = record {
   not_skipped = λ skipped. let at : 109 ≡ 35 = subst (λ (l : List ℕ). IsSkipped l) is skipped in omega (arith, at);
-  not_end = λ end. let two : 109 ∷ tail ≡ codes "end" = sym is ∙ end.2 ∙ ap (λ (ws : List (List ℕ)). joined ws) end.1 in let first : 109 ≡ 101 = ap (λ (l : List ℕ). get_or l 0 0) two in omega (arith, first);
+  not_end = λ end. let two : 109 ∷ tail ≡ codes "end" = sym is ∙ end.2
+      ∙ ap (λ (ws : List (List ℕ)). joined ws) end.1 in let first : 109 ≡ 101 = ap (λ (l : List ℕ). get_or l 0 0) two in omega (arith, first);
 }
 
 pub manifest_alone : (own : ManifestLine) (line : List ℕ) → IsManifestLine own line → IsAlone line

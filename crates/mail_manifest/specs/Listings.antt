@@ -41,7 +41,7 @@ head_table = Two ∷ Eight ∷ Four ∷ []
 unfoldable pub head_part : Opening → List ℕ
 head_part o = row head_table (o.count ∷ o.total ∷ o.first ∷ [])
 
--- one behind the other
+-- one after the other
 abbrev pub marks_text : List (List ℕ) → List ℕ
 marks_text [] = []
 marks_text (mark ∷ rest) = mark ++ marks_text rest

@@ -4,9 +4,7 @@ use Rattle.bench_base.specs.Ranges.{IsKey}
 use Rattle.bench_base.specs.Table.{IsBytes}
 use Rattle.script_words.specs.Words.{words_in, hex_word}
 use Rattle.mail_manifest.specs.Listings.{IsOpening}
-use Rattle.mail_manifest.specs.declared.opening.ManifestLine.{ManifestLine}
-use Rattle.mail_manifest.specs.declared.opening.ManifestLine.TheVariants.{Open, Piece, Code, Check}
-use Rattle.mail_manifest.specs.declared.opening.Opening.{Opening}
+use Rattle.mail_manifest.specs.declared.{opening.ManifestLine.ManifestLine, opening.ManifestLine.TheVariants.Open, opening.ManifestLine.TheVariants.Piece, opening.ManifestLine.TheVariants.Code, opening.ManifestLine.TheVariants.Check, opening.Opening.Opening}
 
 pub record IsOpenLine (o : Opening) : Type 0 where
   pub numbers : IsOpening o
@@ -23,7 +21,7 @@ IsInRange (Check code) = IsKey code
 abbrev pub open_words : Opening → List (List ℕ)
 open_words o = decimal o.first ∷ decimal o.count ∷ decimal o.total ∷ hex_word o.key ∷ []
 
--- its words behind `manifest`
+-- its words after `manifest`
 abbrev pub line_words : ManifestLine → List (List ℕ)
 line_words (Open o) = codes "open" ∷ open_words o
 line_words (Piece mark) = codes "piece" ∷ hex_word mark ∷ []

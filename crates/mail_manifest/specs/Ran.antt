@@ -17,12 +17,11 @@ use Rattle.mail_manifest.specs.Answers.{AreAnswered}
 use Rattle.mail_manifest.specs.CheckerDesk.{checker_desk}
 use Rattle.mail_manifest.specs.Holds.{YesHolds}
 use Rattle.mail_manifest.specs.View.{listing_of}
-use Rattle.mail_manifest.specs.declared.checker.Checker.{Checker}
-use Rattle.mail_manifest.specs.declared.opening.ManifestLine.{ManifestLine}
+use Rattle.mail_manifest.specs.declared.{checker.Checker.Checker, opening.ManifestLine.ManifestLine}
 
--- A checker that had no manifest and the bench did the steps, and each line about the manifest has its answer, by the manifest that was opened last and
--- by the replies to its scans. By a history for which the bench stood, and where nothing was forged, each manifest that was found good holds by the
--- ledger that the steps leave.
+-- A checker that had no manifest and the bench did the steps. Each line about the manifest has its answer, by the manifest that was opened last and
+-- by the replies to its scans. If the bench represented a history, and nothing was forged, each manifest that was found good holds by the ledger
+-- that the steps leave.
 pub record DidManifest (n : Nodes) (old new : SceneOf n) (outcome : SideStatus) (trace : List (SideStep ManifestLine)) : Type 0 where
   pub before : Checker
   pub after : Checker

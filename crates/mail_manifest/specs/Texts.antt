@@ -27,11 +27,11 @@ unread_text number = joined (codes "manifest" ∷ codes "no" ∷ codes "unread" 
 unfoldable pub no_total_text : ℕ → List ℕ
 no_total_text sum = joined (codes "manifest" ∷ codes "no" ∷ codes "total" ∷ decimal sum ∷ [])
 
--- behind the number stands the text of the scan's reply
+-- the text of the scan's reply follows the number
 unfoldable pub no_piece_text : ℕ → Reply → List ℕ
 no_piece_text number reply = joined (codes "manifest" ∷ codes "no" ∷ codes "piece" ∷ decimal number ∷ text_of reply ∷ [])
 
--- the texts of an answer: there is none while a scan is awaited
+-- the texts of an answer: no text while a scan is awaited
 abbrev pub said_texts : Answer → List (List ℕ)
 said_texts answers.Nothing = []
 said_texts (answers.Scanning number) = []

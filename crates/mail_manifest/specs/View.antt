@@ -2,8 +2,7 @@
 use Rattle.std.specs.Prelude.{Option}
 use Rattle.mail_manifest.specs.Held.{listing_in}
 use Rattle.mail_manifest.specs.Listings.{Listing}
-use Rattle.mail_manifest.specs.declared.checker.Checker.{Checker}
-use Rattle.mail_manifest.specs.declared.answer.Answer.{Answer}
+use Rattle.mail_manifest.specs.declared.{checker.Checker.Checker, answer.Answer.Answer}
 
 -- the manifest that was opened last
 abbrev pub listing_of : Checker → Option Listing

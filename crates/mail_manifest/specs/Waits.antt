@@ -10,12 +10,12 @@ abbrev pub IsListed : ℕ → Option Listing → Type 0
 IsListed number None = ⊥
 IsListed number (Some m) = (1 ≤ number) × (number ≤ length m.marks) × (length m.marks ≡ m.opening.count)
 
--- a piece whose scan is awaited is on the manifest
+-- if the scan of a piece is awaited, the piece is on the manifest
 abbrev pub IsWaiting : Option Listing → Answer → Type 0
 IsWaiting m (answers.Scanning number) = IsListed number m
 IsWaiting m _ = Unit {0}
 
--- how many pieces are still to be scanned behind that one
+-- how many pieces are still to be scanned after that one
 abbrev pub pieces_left : Option Listing → Answer → ℕ
 pieces_left (Some m) (answers.Scanning number) = length m.marks - number
 pieces_left _ _ = 0

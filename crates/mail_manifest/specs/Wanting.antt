@@ -1,6 +1,5 @@
--- Where memory may be wanting.
-use Rattle.mail_manifest.specs.declared.opening.ManifestLine.{ManifestLine}
-use Rattle.mail_manifest.specs.declared.opening.ManifestLine.TheVariants.{Open, Piece, Code, Check}
+-- The lines that may run out of memory.
+use Rattle.mail_manifest.specs.declared.{opening.ManifestLine.ManifestLine, opening.ManifestLine.TheVariants.Open, opening.ManifestLine.TheVariants.Piece, opening.ManifestLine.TheVariants.Code, opening.ManifestLine.TheVariants.Check}
 
 -- a manifest takes all its memory as it is opened
 abbrev pub MayWant : ManifestLine → Type 0

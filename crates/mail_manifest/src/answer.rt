@@ -24,11 +24,11 @@ pub enum Answer {
     /// How many pieces there are.
     NoCount(u16),
     NoCode,
-    /// The number of the first piece whose mark does not read.
+    /// The number of the first piece with a mark that does not read.
     Unread(u16),
     /// What the postage adds up to, in mills.
     NoTotal(u64),
-    /// The number of the first piece whose scan was not answered by `Accepted`, and that answer.
+    /// The number of the first piece with a scan that was not answered by `Accepted`, and that answer.
     NoPiece(u16, Reply),
 }
 

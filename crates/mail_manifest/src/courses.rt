@@ -132,7 +132,7 @@ impl Checker {
         Next::Say
     }
 
-    // Opens a manifest, and drops an earlier one. Where memory is wanting all stays.
+    // Opens a manifest, and drops an earlier one. If memory runs out all stays.
     fn open(&mut self, alloc: Global, opening: &Opening) -> Result<Next, AllocError>
         requires range { IsOpening opening.now }
         ensures opens { IfOk result (λ next. Answers (Answer.Opened opening.now.count) (Some (opened opening.now)) next self.new) }

@@ -4,7 +4,6 @@
 mod answer;
 mod checker;
 mod courses;
-pub mod fresh;
 mod lines;
 mod manifest;
 mod opening;
@@ -16,4 +15,4 @@ pub use answer::Answer;
 pub use checker::Checker;
 pub use manifest::Manifest;
 pub use opening::{MOST_PIECES, ManifestLine, Opening};
-pub use run::run_manifest;
+pub use run::{run_fresh_manifest, run_manifest};

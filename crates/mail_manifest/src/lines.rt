@@ -5,9 +5,8 @@ ghost use Rattle.bench_base.specs.Table.{IsBytes};
 ghost use Rattle.script_words.specs.Words.{words_in, hex_word};
 ghost use Rattle.mail_manifest.specs.Listings.{IsOpening};
 ghost use Rattle.mail_manifest.specs.ManifestLines.{IsOpenLine, IsInRange, IsManifestLine, open_words, line_words};
-ghost use Rattle.mail_manifest.specs.declared.opening.ManifestLine.{ManifestLine as TheLine};
+ghost use Rattle.mail_manifest.specs.declared.{opening.ManifestLine.ManifestLine as TheLine, opening.Opening.Opening as TheOpening};
 ghost use Rattle.mail_manifest.specs.declared.opening.ManifestLine.TheVariants as own;
-ghost use Rattle.mail_manifest.specs.declared.opening.Opening.{Opening as TheOpening};
 
 use crate::opening::{MOST_PIECES, ManifestLine, Opening};
 use bench_base::bytes::Given;
@@ -28,7 +27,7 @@ fn is_opening(opening: &Opening) -> bool
         && u64::from(opening.first) + u64::from(count) <= WORDS
 }
 
-// The line of the words behind `open`.
+// The line of the words after `open`.
 fn read_open(rest: &[u8]) -> Option<ManifestLine>
     ensures found { IfSome result (λ line. (o : TheOpening) × IsOpenLine o × (line ≡ own.Open o)
         × (words_in rest.now ≡ open_words o)) }
@@ -65,7 +64,7 @@ fn mark_of(bytes: &Given) -> Option<[u8; 64]>
     Some(mark)
 }
 
-// The line of the words behind `piece`.
+// The line of the words after `piece`.
 fn read_piece(rest: &[u8]) -> Option<ManifestLine>
     ensures found { IfSome result (λ line. (mark : List ℕ) × (length mark ≡ 64) × IsBytes mark × (line ≡ own.Piece mark)
         × (words_in rest.now ≡ hex_word mark ∷ [])) }
@@ -81,7 +80,7 @@ fn read_piece(rest: &[u8]) -> Option<ManifestLine>
     }
 }
 
-// The line of the words behind `check`.
+// The line of the words after `check`.
 fn read_check(rest: &[u8]) -> Option<ManifestLine>
     ensures found { IfSome result (λ line. (code : List ℕ) × IsKey code × (line ≡ own.Check code)
         × (words_in rest.now ≡ hex_word code ∷ [])) }
@@ -93,7 +92,7 @@ fn read_check(rest: &[u8]) -> Option<ManifestLine>
     }
 }
 
-// The line that has this word behind `manifest`, and more behind it.
+// The line that has this word after `manifest`, and more after the word.
 fn read_long(word: &[u8], rest: &[u8]) -> Option<ManifestLine>
     ensures found { IfSome result (λ line. IsInRange line × (line_words line ≡ word.now ∷ words_in rest.now)) }
     ensures none { IfNone result ((line : TheLine) → IsInRange line → line_words line ≢ word.now ∷ words_in rest.now) }
@@ -110,7 +109,7 @@ fn read_long(word: &[u8], rest: &[u8]) -> Option<ManifestLine>
     None
 }
 
-// The line that has these words behind `manifest`.
+// The line that has these words after `manifest`.
 fn read_behind(bytes: &[u8]) -> Option<ManifestLine>
     ensures found { IfSome result (λ line. IsInRange line × (line_words line ≡ words_in bytes.now)) }
     ensures none { IfNone result ((line : TheLine) → IsInRange line → line_words line ≢ words_in bytes.now) }
@@ -126,7 +125,7 @@ fn read_behind(bytes: &[u8]) -> Option<ManifestLine>
     }
 }
 
-/// The line about the manifest that the bytes are; None if and only if they are none.
+/// The line about the manifest that the bytes are; None if and only if they are no such line.
 pub fn read_manifest_line(line: &[u8]) -> Option<ManifestLine>
     ensures found { IfSome result (λ own. IsManifestLine own line.now) }
     ensures none { IfNone result ((own : TheLine) → IsManifestLine own line.now → ⊥) }

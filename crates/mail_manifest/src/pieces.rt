@@ -1,4 +1,4 @@
-//! The pieces of a manifest: one is added, and its code and postage are told.
+//! The pieces of a manifest: one is added, and its code and postage are computed.
 ghost use Rattle.std.specs.Prelude.{◌≡◌, ◌<◌, ◌≤◌, ◌+◌, ◌*◌, ◌++◌, length, take, drop, vec_capacity, IfOk, IfErr};
 ghost use Rattle.mail_manifest.specs.Held.{listed};
 ghost use Rattle.mail_manifest.specs.Listings.{IsOpening, head_part, opened, with_mark, code_of, mark_at, AllRead, IsFirstUnread, postage_in_all};
@@ -102,7 +102,7 @@ impl Manifest {
         mark_in(&self.text, HEAD + MARK * usize::from(at))
     }
 
-    /// The postage of all pieces, in mills; or the number, from 1, of the first whose mark does not read.
+    /// The postage of all pieces, in mills; or the number, from 1, of the first piece with a mark that does not read.
     pub(crate) fn postage(&self) -> Result<u64, u16>
         ensures read { IfOk result (λ sum. AllRead (listed self.now) × (sum ≡ postage_in_all (listed self.now))) }
         ensures unread { IfErr result (λ number. IsFirstUnread number (listed self.now)) }

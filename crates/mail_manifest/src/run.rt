@@ -1,25 +1,30 @@
-//! A run over a script with a manifest beside the bench.
-ghost use Rattle.std.specs.Prelude.{◌≢◌, map, string_bytes, codes};
-ghost use Rattle.bench.specs.Benches.{IsReady, bench_of};
+//! A run over a script with a manifest beside the bench, or from nothing over blank storages in memory.
+ghost use Rattle.std.specs.Prelude.{◌≢◌, map, string_bytes, codes, [], IfSome};
+ghost use Rattle.bench.specs.Benches.{IsReady, bench_of, Stands};
 ghost use Rattle.mail_manifest.specs.Ran.{DidManifest};
 ghost use Rattle.script_replay.specs.Chains.{scene_of};
 ghost use Rattle.script_replay.specs.Sides.{RanSide, EndsSide, CompletesSide};
 ghost use Rattle.script_replay.specs.Streams.{streams_of};
+ghost use Rattle.script_replay.specs.Fresh.{IsOverFresh};
+ghost use Rattle.script_replay.specs.SidesFresh.{RanSideFresh};
+ghost use Rattle.mail_manifest.specs.Fresh.{DidFreshManifest};
 
 use crate::checker::Checker;
 use bench::{Bench, HasNodes};
+use bench_base::memory::{MemSink, MemSource};
 use bench_base::stream::{Sink, Source};
 use ledger_laws::laws::histories;
 use line_extensions::Extension;
-use nv_model::Nv;
+use nv_model::{MemNv, Nv};
+use script_replay::fresh::fresh_bench;
 use script_replay::side::run_side;
 use script_replay::status::SideStatus;
 use std::alloc::Global;
 use text_streams::BufSource;
 
-/// Does a script whose lines are events of the bench or about a manifest, where the words are `manifest` alone. A manifest is good exactly
-/// where it is complete, has its code and its total, and every piece on it was accepted by a scan of its mark. By the ledger these pieces are
-/// accepted under the manifest's numbers and no others, and its total is what was debited. There is no manifest at first.
+/// Runs a script of events of the bench and of lines about a manifest, if the words are `manifest` alone. A manifest is good if and only if it is
+/// complete, has its code and its total, and every piece on it was accepted by a scan of its mark. By the ledger these pieces are accepted under the
+/// manifest's numbers and no others, and its total is what was debited. There is no manifest at first.
 pub fn run_manifest<S: BufSource, R: Source, K: Sink, P: Sink, N: Nv + Drop>(
     alloc: Global,
     words: &[String],
@@ -57,4 +62,59 @@ pub fn run_manifest<S: BufSource, R: Source, K: Sink, P: Sink, N: Nv + Drop>(
         bench,
         &mut checker,
     )
+}
+
+// The run over an unused bench.
+fn run_over<S: BufSource, K: Sink>(
+    alloc: Global,
+    words: &[String],
+    script: &mut S,
+    rates: &mut MemSource,
+    report: &mut K,
+    printer: &mut MemSink,
+    bench: Bench<MemNv>,
+) -> SideStatus
+    requires ready { IsReady (bench_of bench) }
+    requires tells { ⟦<MemNv as Nv>⟧.tells }
+    requires stands { Stands ⟦<Bench<MemNv> as HasNodes>⟧.nodes (bench_of bench) [] }
+    requires made { IsOverFresh (bench_of bench) }
+    ensures ran { RanSideFresh ⟦<Bench<MemNv> as HasNodes>⟧.nodes ⟦<Checker as line_extensions::Extension>⟧
+        (λ made. IsOverFresh made) (codes "manifest") result (map string_bytes words.now)
+        (λ old new. DidFreshManifest ⟦<Bench<MemNv> as HasNodes>⟧.nodes old new result)
+        (streams_of S.Source K.Sink ⟦<MemSource as Source>⟧ ⟦<MemSink as Sink>⟧
+        script.old report.old rates.old printer.old)
+        (streams_of S.Source K.Sink ⟦<MemSource as Source>⟧ ⟦<MemSink as Sink>⟧
+        script.new report.new rates.new printer.new) }
+    ensures never_stops { result ≢ SideStatus.Stopped }
+{
+    let mut bench = bench;
+    run_manifest(alloc, words, script, rates, report, printer, &mut bench)
+}
+
+/// Does what `run_manifest` does, on a new bench over blank storages in memory. `None` if there is no memory for it.
+///
+/// Nothing is asked of what is there at the beginning: all that `run_manifest` promises by a history holds by the empty one. The rates and the
+/// printer are those that are handed in, and the storages have room for 12,000 calls and 430,000 written bytes each.
+pub fn run_fresh_manifest<S: BufSource, K: Sink>(
+    alloc: Global,
+    words: &[String],
+    script: &mut S,
+    rates: &mut MemSource,
+    report: &mut K,
+    printer: &mut MemSink,
+) -> Option<SideStatus>
+    ensures ran { IfSome result (λ outcome. RanSideFresh ⟦<Bench<MemNv> as HasNodes>⟧.nodes
+        ⟦<Checker as line_extensions::Extension>⟧ (λ made. IsOverFresh made) (codes "manifest") outcome
+        (map string_bytes words.now)
+        (λ old new. DidFreshManifest ⟦<Bench<MemNv> as HasNodes>⟧.nodes old new outcome)
+        (streams_of S.Source K.Sink ⟦<MemSource as Source>⟧ ⟦<MemSink as Sink>⟧
+        script.old report.old rates.old printer.old)
+        (streams_of S.Source K.Sink ⟦<MemSource as Source>⟧ ⟦<MemSink as Sink>⟧
+        script.new report.new rates.new printer.new)) }
+    ensures never_stops { IfSome result (λ outcome. outcome ≢ SideStatus.Stopped) }
+{
+    match fresh_bench(alloc) {
+        Some(bench) => Some(run_over(alloc, words, script, rates, report, printer, bench)),
+        None => None,
+    }
 }

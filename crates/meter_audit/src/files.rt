@@ -50,7 +50,7 @@ fn irregular(rt: &HostRuntime, file: &str) -> Fault {
     }
 }
 
-// What is said of a file at which this failed.
+// What is said of a file that failed so.
 fn fault_at(rt: &HostRuntime, file: &str, error: &io::Error) -> Fault {
     match error.kind() {
         io::ErrorKind::OutOfMemory => Fault::Memory,
@@ -123,7 +123,8 @@ fn too_long(rt: &HostRuntime, file: &str) -> Fault {
     }
 }
 
-// The rates in this open file. A longer one is refused: a run with more than 16 `rates` could take more of it than is read, and a lawful report would be called wrong.
+// The rates in this open file. A longer one is refused: a run with more than 16 `rates` could take more of it than is read, and a lawful
+// report would be called wrong.
 fn all_rates(rt: &HostRuntime, file: &str, opened: File) -> Result<Vec<u8>, Fault> {
     let rates = first_bytes(rt, file, opened, MOST_RATES + 1)?;
     if rates.len() as u64 > MOST_RATES {
@@ -138,7 +139,7 @@ pub fn rates_in(rt: &HostRuntime, file: &str) -> Result<Vec<u8>, Fault> {
     all_rates(rt, file, opened)
 }
 
-// The rates of a run by its own file. That it is missing is mentioned on standard error, which may take no line.
+// The rates of a run by its own file. A missing file is mentioned on standard error, which may take no line.
 fn own_rates(rt: &HostRuntime, name: &str) -> Result<Vec<u8>, Fault> {
     let file = joined(rt, name, ".rates")?;
     match File::open(rt, file.as_str()) {

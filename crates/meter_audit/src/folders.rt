@@ -34,7 +34,7 @@ fn add_run(
     or_memory(names.push(name))
 }
 
-// The runs in the folder, in the order in which it has them.
+// The runs in the folder, in the order of the folder.
 fn listed(rt: &HostRuntime, folder: &str) -> Result<Vec<String>, Fault> {
     let prefix = with_slash(rt, folder)?;
     let mut names = Vec::new(rt.alloc());
@@ -50,7 +50,7 @@ fn listed(rt: &HostRuntime, folder: &str) -> Result<Vec<String>, Fault> {
     Ok(names)
 }
 
-/// The runs in the folder, in the order of the bytes of their names. The fault says if there is none.
+/// The runs in the folder, in the order of the bytes of their names. The fault says if there is no run.
 pub fn runs_in(rt: &HostRuntime, folder: &str) -> Result<Vec<String>, Fault> {
     let mut names = listed(rt, folder)?;
     or_memory(names.sort())?;

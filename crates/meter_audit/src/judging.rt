@@ -18,7 +18,7 @@ pub enum Outcome {
     Stopped(u32),
     Wrong(u32),
     Forged(u32),
-    /// An event brings bytes, and what was sent and released is not kept.
+    /// An event contains bytes, and what was sent and released is not kept.
     Unkept,
     More(u32),
     Unread(Input),
@@ -123,8 +123,8 @@ fn gave_nothing(tail: &RefCell<Tail>) -> bool {
     }
 }
 
-/// Judges a run over what the auditor has, by what these read, each of which is read once: the imprints are added to those of the runs before. AllocError is lack
-/// of memory beside that of the verdict.
+/// Judges a run over what the auditor has, by what these read. Each is read once: the imprints are added to those of the runs before. AllocError is
+/// lack of memory beside that of the verdict.
 pub fn judge_over<S: Read + Drop, R: Read + Drop>(
     alloc: Global,
     auditor: &mut Auditor,

@@ -1,6 +1,7 @@
-//! The auditor's program: whether the reports that some meter wrote for these scripts may be those of a lawful meter. Each NAME is a
-//! run, in order: NAME.script, NAME.report and NAME.rates, which is empty where it is missing. Options ask for runs in a folder, for rates of all runs, for their
-//! prints, for marks that were seen on mail, and for one of: what the auditor has after the runs, what they came to, the journal of what they committed, and what was due after a stop.
+//! The auditor's program: whether the reports that some meter wrote for these scripts may be those of a lawful meter. Each NAME is a run, in order:
+//! NAME.script, NAME.report and NAME.rates, which is empty if it is missing. Options ask for runs in a folder, for rates of all runs, for their
+//! prints, and for marks that were seen on mail. One option may ask for more: what the auditor has after the runs, what they came to, the journal of
+//! what they committed, or what was due after a stop.
 #![tactic(auto)]
 
 mod checking;
@@ -213,7 +214,8 @@ fn judge_words(
     })
 }
 
-// Ends the journal, which is closed on each way out: the exit status. That of a finding stays, and a fault before is the one that is reported.
+// Ends the journal, which is closed on each way out: the exit status. The status of a finding stays, and an earlier fault is the one that is
+// reported.
 fn end_journal(
     rt: &HostRuntime,
     clerk: &mut Recount,
@@ -231,7 +233,7 @@ fn end_journal(
     }
 }
 
-// Whether a script may bring bytes.
+// Whether a script may contain bytes.
 fn has_bytes(planned: &Result<Plan, Fault>) -> bool {
     match planned {
         Ok(plan) => plan.has_bytes,

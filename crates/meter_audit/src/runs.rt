@@ -22,9 +22,9 @@ use trace_runs::{Imprint, Input};
 #[derive(Drop)]
 pub struct Gathered {
     pub imprints: Vec<Imprint>,
-    /// Of each run how many imprints there are up to its end.
+    /// For each run, how many imprints there are up to its end.
     pub ends: Vec<usize>,
-    /// Of each run that is gone over once more the digest up to it.
+    /// For each run that is gone over once more, the digest up to it.
     pub digests: Vec<Sum>,
     /// The last day that was reported.
     pub day: Option<DayNo>,
@@ -50,7 +50,7 @@ impl Gathered {
     }
 }
 
-/// Prints a verdict: where the journal goes to standard output, on standard error. That may take no line; the exit status says the same.
+/// Prints a verdict: on standard error if the journal goes to standard output. Standard error may take no line; the exit status says the same.
 pub fn say(rt: &HostRuntime, asked: Asked, text: &str) -> Result<(), Fault> {
     if takes_output(asked) {
         let _ = eprintln!(rt; "{text}");
@@ -161,7 +161,7 @@ fn tell_due(
     or_book(put_due(rt.alloc(), auditor, run, &mut output))
 }
 
-// Goes once more over a run of which nothing was found.
+// Goes once more over a run without a finding.
 fn count(
     rt: &HostRuntime,
     plan: &Plan,

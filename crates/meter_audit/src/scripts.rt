@@ -1,4 +1,5 @@
-//! Whether scripts may bring bytes from outside. If none does, no event asks which messages were sent and which marks released, and nothing is kept of them.
+//! Whether scripts may contain bytes from outside. If none does, no event asks which messages were sent and which marks released, and nothing is
+//! kept of them.
 use crate::files::{open_of, want_regular_of};
 use bench_base::stream::IoSource;
 use line_runs::lines::{LineRead, read_line};
@@ -29,7 +30,7 @@ fn may_be_bytes(line: &[u8]) -> bool {
     line.starts_with(b"give ") || (line.starts_with(b"scan ") && has_hex(line))
 }
 
-// Whether a line of the open script may bring bytes. Nothing is read after a line that is too long, at which a run ends.
+// Whether a line of the open script may contain bytes. A run ends at a line that is too long, so nothing is read after it.
 fn has_bytes(rt: &HostRuntime, opened: File) -> bool {
     let Ok(ahead) = vec![in rt.alloc(); 0; AHEAD] else {
         return true;
@@ -50,7 +51,7 @@ fn has_bytes(rt: &HostRuntime, opened: File) -> bool {
     false
 }
 
-// Whether the script of this run may bring bytes: also if it is no regular file, which can be read once alone, or can't be read.
+// Whether the script of this run may contain bytes. It is taken to, if it is no regular file, which can be read only once, or if it can't be read.
 fn may_bring(rt: &HostRuntime, name: &str) -> bool {
     if want_regular_of(rt, name, ".script").is_err() {
         return true;

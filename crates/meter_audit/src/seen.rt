@@ -118,8 +118,8 @@ impl SeenFile {
     }
 }
 
-/// Reads the marks in this file, each of which the auditor has seen from then on. A line that is no mark, or has that of an earlier line, is told as it is read: of the others
-/// one record a mark is kept.
+/// Reads the marks in this file; the auditor has seen each from then on. A line that is no mark, or has that of an earlier line, is reported as it
+/// is read. One record is kept for the mark of each other line.
 pub fn read_seen(
     rt: &HostRuntime,
     auditor: &mut Auditor,

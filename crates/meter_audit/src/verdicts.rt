@@ -18,7 +18,7 @@ pub fn is_finding(judged: &Judged) -> bool {
     }
 }
 
-/// Whether a run of which nothing was found leaves something undecided: its script has no end, or its report has nothing.
+/// Whether a run without a finding leaves something undecided: its script has no end, or its report has nothing.
 pub fn is_undecided(judged: &Judged) -> bool {
     match judged.ending {
         Ending::Script(_) | Ending::TooLong => true,
@@ -26,7 +26,7 @@ pub fn is_undecided(judged: &Judged) -> bool {
     }
 }
 
-/// The line of the script whose answer is missing, if the run was stopped.
+/// The line of the script with the missing answer, if the run was stopped.
 pub fn stopped_at(judged: &Judged) -> Option<u32> {
     match judged.outcome {
         Outcome::Stopped(line) => Some(line),

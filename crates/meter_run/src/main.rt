@@ -1,5 +1,5 @@
-//! The meter's program: runs a script from standard input, or generated events, over eight devices, the centre, the host and the
-//! verifier, whose storages are files in the current folder, and writes the report to standard output.
+//! The meter's program: runs a script from standard input, or generated events, and writes the report to standard output. The
+//! eight devices, the centre, the host and the verifier have their storages in files in the current folder.
 #![tactic(auto)]
 
 mod opening;
@@ -30,7 +30,7 @@ use text_streams::ReadAhead;
 /// How much of the script is read ahead, in bytes.
 const AHEAD: usize = 8192;
 
-// The words after the program's name. If one of them is no UTF-8 there are none, and none are bad words.
+// The words after the program's name. If one of them is not UTF-8 the result has no words, and no words are bad words.
 fn words_of(rt: &HostRuntime) -> Result<Vec<String>, OpenFault> {
     let mut words = Vec::new(rt.alloc());
     let given = match env::args(rt) {
@@ -119,7 +119,7 @@ fn remember_end(
     };
 }
 
-// Runs what the words say over what was opened, with whoever has lines of its own.
+// Runs what the words say over what was opened, with the extension that reads lines of its own, if there is one.
 fn run_over(rt: &HostRuntime, words: &[String], opened: Opened) -> Result<SideStatus, OpenFault> {
     let Opened {
         stores,

@@ -124,7 +124,7 @@ fn with_printer(
     Ok((side?, open_printer(rt)?))
 }
 
-// Gives the storages their names, if all else that a run works on can be had.
+// Gives the storages their names, if everything that a run works on can be had.
 fn settle(
     rt: &HostRuntime,
     starting: Starting<'_>,
@@ -152,7 +152,7 @@ fn settle(
     }
 }
 
-// The storages of a bench with one more behind them, which is handed out.
+// The storages of a bench with one more after them, which is handed out.
 fn prepare_own<'a>(
     rt: &HostRuntime,
     files: &'a [StoreFile; 12],

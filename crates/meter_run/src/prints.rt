@@ -1,4 +1,4 @@
-//! Where the prints go.
+//! The file that the prints go to.
 use crate::store_files::{is_store, is_store_name};
 use bench_base::stream::IoSink;
 use program_calls::OpenFault;
@@ -59,7 +59,7 @@ pub fn look_at_prints(rt: &HostRuntime) -> Result<(), OpenFault> {
     Ok(())
 }
 
-/// The printer. Nobody else reads what it prints, since a line of it is postage.
+/// The printer. Only the owner may read what it prints, since a line of it is postage.
 pub fn open_printer(rt: &HostRuntime) -> Result<IoSink<File>, OpenFault> {
     let fault = Err(OpenFault::File(PRINTS_FILE));
     let mut options = OpenOptions::new();

@@ -27,8 +27,8 @@ pub const DEPARTMENTS: StoreFile = StoreFile {
     bytes: DEPARTMENT_BYTES,
 };
 
-/// Those of devices 1 to 8, of the centre, of the host and of the verifier, in the order in which they are looked at, and behind them those of
-/// the claims and of the departments.
+/// The storages of devices 1 to 8, of the centre, of the host and of the verifier, in the order in which they are looked at. Those of the claims and
+/// of the departments follow.
 pub const STORES: [StoreFile; 13] = [
     StoreFile {
         name: "device-1.nv",
@@ -78,7 +78,7 @@ pub const STORES: [StoreFile; 13] = [
     DEPARTMENTS,
 ];
 
-/// The storages of a bench, and behind them one of a desk's own.
+/// The storages of a bench, and after them one of a desk's own.
 pub fn with_own(own: StoreFile) -> [StoreFile; 12] {
     let mut files = [own; 12];
     files[..BENCH_STORES].copy_from_slice(&STORES[..BENCH_STORES]);

@@ -1,9 +1,6 @@
--- What holds of the commit of an act holds of it however the act is told.
-use Rattle.bench_base.specs.declared.ledger.Commit.{Commit}
-use Rattle.bench_base.specs.declared.events.Reply.{Reply}
-use Rattle.node_acts.specs.declared.act.Act.{Act}
-use Rattle.node_acts.specs.declared.act.Act.TheVariants.{Refuse, Tell, Commits}
-use Rattle.node_acts.specs.declared.said.Said.{Said}
+-- What holds of an act's commit holds of it however the act is reported.
+use Rattle.bench_base.specs.declared.{ledger.Commit.Commit, events.Reply.Reply}
+use Rattle.node_acts.specs.declared.{act.Act.Act, act.Act.TheVariants.Refuse, act.Act.TheVariants.Tell, act.Act.TheVariants.Commits, said.Said.Said}
 use Rattle.node_acts.specs.Acts.{OfCommit}
 use Rattle.node_acts.specs.Said.{saying}
 

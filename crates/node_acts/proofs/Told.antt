@@ -1,16 +1,11 @@
 -- What a call is reported as is what the plan of its act says, or a failure in its commit.
 use Rattle.std.proofs.Common.{◌≡◌, ◌⊎◌, inl, inr, [], Option, Some, None, Bool, true, false, if◌then◌else◌, option_map, refl, sym, ◌∙◌, ap, subst, append-nil}
-use Rattle.bench_base.specs.declared.words.Node.{Node}
-use Rattle.bench_base.specs.declared.ledger.Commit.{Commit}
-use Rattle.bench_base.specs.declared.events.Reply.{Reply}
+use Rattle.bench_base.specs.declared.{words.Node.Node, ledger.Commit.Commit, events.Reply.Reply}
 use Rattle.bench_base.specs.declared.events.Reply.TheVariants as r
 use Rattle.bench_base.specs.Nodes.{node_of}
 use Rattle.bench_base.specs.Plans.{Plan, refuse, made, told}
-use Rattle.node_acts.specs.declared.act.Act.{Act}
-use Rattle.node_acts.specs.declared.act.Act.TheVariants.{Refuse, Tell, Commits}
-use Rattle.node_acts.specs.declared.act.Outcome.{Outcome}
+use Rattle.node_acts.specs.declared.{act.Act.Act, act.Act.TheVariants.Refuse, act.Act.TheVariants.Tell, act.Act.TheVariants.Commits, act.Outcome.Outcome, said.Said.Said}
 use Rattle.node_acts.specs.declared.act.Outcome.TheVariants as o
-use Rattle.node_acts.specs.declared.said.Said.{Said}
 use Rattle.node_acts.specs.Views.{Counting, View}
 use Rattle.node_acts.specs.Acts.{commit_in, commit_of, outcome_in, outcome_of, MayCome, after_call}
 use Rattle.bench_base.specs.Replies.{ReplyClass, Did, Refused, class_of}
@@ -18,7 +13,7 @@ use Rattle.node_acts.specs.Plans.{with_torn, after, after_told, Fails, IsOfNode,
 use Rattle.node_acts.specs.Said.{tells, IsPlain, seen_plan, said_reply, said_entries}
 
 module _ {S X : Type 0} (n : Counting S X) (m : Node) where
-  -- what was told of a call with this act, this plan and this commit
+  -- what was reported of a call with this act, this plan and this commit
   pub record Tells (p : Plan) (act : Act X Reply Said) (made : Option (Commit × S)) (result : Outcome Reply Said) : Type 0 where
     pub may : (said_reply m result ≡ p.reply) ⊎ Fails p (said_reply m result)
     pub entries_are : said_entries m act result ≡ after p (said_reply m result) []

@@ -1,13 +1,11 @@
 -- A call of a node, by what it does where its storage does not fail: its act.
 use Rattle.std.specs.Prelude.{◌≡◌, ℕ, Bool, true, false, Option, Some, None, if◌then◌else◌}
 use Rattle.bench_base.specs.declared.ledger.Commit.{Commit}
-use Rattle.node_acts.specs.declared.act.Act.{Act}
-use Rattle.node_acts.specs.declared.act.Act.TheVariants.{Refuse, Tell, Commits}
-use Rattle.node_acts.specs.declared.act.Outcome.{Outcome}
+use Rattle.node_acts.specs.declared.{act.Act.Act, act.Act.TheVariants.Refuse, act.Act.TheVariants.Tell, act.Act.TheVariants.Commits, act.Outcome.Outcome}
 use Rattle.node_acts.specs.declared.act.Outcome.TheVariants as o
 use Rattle.node_acts.specs.Views.{Counting, View, committed, torn}
 
--- of an armed fuse a call uses at most so many calls: a commit six, all else none
+-- a call uses at most so many calls of an armed fuse: six for a commit, and otherwise none
 abbrev pub cost : {X F A : Type 0} → Act X F A → ℕ
 cost (Refuse x) = 0
 cost (Tell a) = 0
@@ -44,9 +42,9 @@ after_call _ _ v = v
 abbrev pub MayTear : {S : Type 0} → Commit → Option (Commit × S) → Type 0
 MayTear {S} c made = (s : S) × (made ≡ Some (c, s))
 
--- == whatever the storage tells ==
+-- == whether or not the storage exposes its contents ==
 
--- the act tells this, with a commit or without
+-- the act answers this, with a commit or without
 abbrev pub TellsOf : {X F A : Type 0} → A → Act X F A → Type 0
 TellsOf a (Refuse x) = ⊥
 TellsOf a (Tell b) = b ≡ a

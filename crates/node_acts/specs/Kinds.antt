@@ -1,17 +1,15 @@
 -- What is seen of a node by the ledger, and what an event of it does by that alone, whatever the kind of the node.
 use Rattle.std.specs.Prelude.{ℤ, List, [], ◌∷◌, Option, None, option_map}
-use Rattle.bench_base.specs.declared.words.Node.{Node}
-use Rattle.bench_base.specs.declared.ledger.Commit.{Commit}
+use Rattle.bench_base.specs.declared.{words.Node.Node, ledger.Commit.Commit}
 use Rattle.bench_base.specs.declared.ledger.Entry.TheVariants as entry
 use Rattle.bench_base.specs.declared.events.Reply.TheVariants as r
 use Rattle.bench_base.specs.Plans.{Plan, refuse, told}
 use Rattle.bench_base.specs.Ledger.{Ledger, torn_of, is_on, counted}
 use Rattle.node_acts.specs.Views.{Counting, View}
 use Rattle.node_acts.specs.Plans.{when_on, on_plan}
-use Rattle.node_acts.specs.declared.asked.Asked.{Asked}
-use Rattle.node_acts.specs.declared.asked.Asked.TheVariants.{On, Off, Cut, Call}
+use Rattle.node_acts.specs.declared.{asked.Asked.Asked, asked.Asked.TheVariants.On, asked.Asked.TheVariants.Off, asked.Asked.TheVariants.Cut, asked.Asked.TheVariants.Call}
 
--- what the bench sees of node m, whose record after some commits is as seen says
+-- what the bench sees of node m; its record after some commits is as `seen` says
 abbrev pub view_in : {S : Type 0} → Node → (List Commit → S) → Ledger → View S
 view_in m seen H = record {
   state = seen (counted H);
@@ -19,8 +17,8 @@ view_in m seen H = record {
   on = is_on m H;
 }
 
--- What a kind of nodes brings, whose names are N, whose records S, and whose calls C: what is seen of each after some commits,
--- and the plan and the commit of each call on a day.
+-- A kind of nodes with names N, records S and calls C: what is seen of each after some commits, and the plan and the commit
+-- of each call on a day.
 pub record Kind (N S C : Type 0) : Type 0 where
   pub seen : N → List Commit → S
   pub plan : N → ℤ → View S → C → Plan

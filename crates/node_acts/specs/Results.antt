@@ -1,10 +1,7 @@
 -- What a call of a node on its storage answers, by its act.
 use Rattle.std.specs.Prelude.{Result, Ok, Err, if◌then◌else◌}
-use Rattle.bench_base.specs.declared.refusals.Fail.{Fail}
-use Rattle.bench_base.specs.declared.refusals.Fail.TheVariants.{Refused, Store}
-use Rattle.bench_base.specs.declared.refusals.StoreFail.TheVariants.{Worn}
-use Rattle.node_acts.specs.declared.act.Act.{Act}
-use Rattle.node_acts.specs.declared.act.Act.TheVariants.{Refuse, Tell, Commits}
+use Rattle.bench_base.specs.declared.{refusals.Fail.Fail, refusals.Fail.TheVariants.Refused, refusals.Fail.TheVariants.Store, refusals.StoreFail.TheVariants.Worn}
+use Rattle.node_acts.specs.declared.{act.Act.Act, act.Act.TheVariants.Refuse, act.Act.TheVariants.Tell, act.Act.TheVariants.Commits}
 use Rattle.node_acts.specs.Views.{Counting}
 use Rattle.node_acts.specs.Acts.{is_full}
 

@@ -41,7 +41,7 @@ counting_by cell_of row_in = record {
   after = λ s x. put s (cell_of x) (row_in x);
 }
 
--- the list of so many items, of which this is item k: not unfolded by itself, since their number is a numeral where it is used
+-- The list of the first n items, from item 0 on. It is not unfolded by itself, since n is a numeral where it is used.
 unfoldable pub listed : {A : Type 0} → ℕ → (ℕ → A) → List A
 listed zero item = []
 listed (suc n) item = item zero ∷ listed n (λ k. item (suc k))

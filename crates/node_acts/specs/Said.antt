@@ -1,19 +1,11 @@
 -- What a node says if a call of it is done, and an act with its answers in words, for any kind of node.
 use Rattle.std.specs.Prelude.{◌≡◌, ℕ, ℤ, List, [], ◌∷◌, ◌++◌, Option, Some, None}
-use Rattle.bench_base.specs.declared.words.Node.{Node}
-use Rattle.bench_base.specs.declared.ledger.Commit.{Commit}
-use Rattle.bench_base.specs.declared.ledger.Entry.{Entry}
+use Rattle.bench_base.specs.declared.{words.Node.Node, ledger.Commit.Commit, ledger.Entry.Entry, events.Reply.Reply}
 use Rattle.bench_base.specs.declared.ledger.Entry.TheVariants as entry
-use Rattle.bench_base.specs.declared.events.Reply.{Reply}
 use Rattle.bench_base.specs.Plans.{Plan}
 use Rattle.bench_base.specs.Ledger.{Ledger}
 use Rattle.bench_base.specs.Replies.{Did, Refused, class_of}
-use Rattle.node_acts.specs.declared.act.Act.{Act}
-use Rattle.node_acts.specs.declared.act.Act.TheVariants.{Refuse, Tell, Commits}
-use Rattle.node_acts.specs.declared.act.Outcome.{Outcome}
-use Rattle.node_acts.specs.declared.said.Said.{Said}
-use Rattle.node_acts.specs.declared.said.GivenOut.{GivenOut}
-use Rattle.node_acts.specs.declared.said.GivenOut.TheVariants.{Released, Printed}
+use Rattle.node_acts.specs.declared.{act.Act.Act, act.Act.TheVariants.Refuse, act.Act.TheVariants.Tell, act.Act.TheVariants.Commits, act.Outcome.Outcome, said.Said.Said, said.GivenOut.GivenOut, said.GivenOut.TheVariants.Released, said.GivenOut.TheVariants.Printed}
 use Rattle.node_acts.specs.Plans.{plan_of, done_plan, when_on, call_reply, call_entries}
 use Rattle.node_acts.specs.Views.{Counting, View}
 use Rattle.node_acts.specs.Acts.{commit_of}
@@ -31,7 +23,7 @@ gives reply x = record { reply = reply; given = Some x; sent = None }
 abbrev pub sends : Reply → List ℕ → Said
 sends reply note = record { reply = reply; given = None; sent = Some note }
 
--- == what is told after the commit, the newest first: a mark leaves the node before the message that carries it is sent ==
+-- == what is reported after the commit, the newest first: a mark leaves the node before the message that carries it is sent ==
 
 -- the entry of what was given out
 abbrev pub with_given : Option GivenOut → List Entry
@@ -81,7 +73,7 @@ said_entries m act outcome = call_entries m tells act outcome
 abbrev pub planned_commit : {X : Type 0} → Act X Reply Said → Option Commit
 planned_commit act = (said_plan act).commit
 
--- the kind of nodes whose calls have these acts, by the record of the node
+-- the kind of nodes with these acts for its calls, by the record of the node
 abbrev pub kind_by : {N S X C : Type 0} → Counting S X → (N → Node) → (N → List Commit → S) → (N → ℤ → C → S → Act X Reply Said) → Kind N S C
 kind_by n node seen act = record {
   seen = seen;

@@ -38,6 +38,6 @@ pub enum Started {
     Power,
     /// The storage failed. It is off.
     Fault,
-    /// Its storage is none of this node. It is off.
+    /// Its storage is not a valid storage of this node. The node is off.
     Damaged,
 }

@@ -11,8 +11,7 @@ use bench_base::words::Node as NodeNo;
 pub trait Callee {
     type Refusal: Copy;
 
-    ghost use Rattle.bench_base.specs.declared.events.Reply.{Reply};
-    ghost use Rattle.bench_base.specs.declared.words.Node.{Node};
+    ghost use Rattle.bench_base.specs.declared.{events.Reply.Reply, words.Node.Node};
 
     ghost named: { Self → Node };
 
@@ -31,8 +30,7 @@ pub trait Callee {
 pub trait Call<E: Callee, R, X: Copy> {
     type Answer: Copy;
 
-    ghost use Rattle.node_acts.specs.declared.act.Act.{Act};
-    ghost use Rattle.node_acts.specs.declared.said.Said.{Said};
+    ghost use Rattle.node_acts.specs.declared.{act.Act.Act, said.Said.Said};
     ghost use Rattle.node_acts.specs.Changes.{ChangesBy};
 
     /// What the call is asked with is in its range.

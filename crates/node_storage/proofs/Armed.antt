@@ -1,4 +1,4 @@
--- A fuse that is armed changes nothing else.
+-- Arming a fuse changes only the fuse.
 use Rattle.std.proofs.Common.{◌≡◌, ℕ, Some, ◌∙◌, ap, subst}
 use Rattle.nv_model.specs.declared.nv.Nv as nv
 use Rattle.nv_model.specs.declared.fuse.Fuse as fuse

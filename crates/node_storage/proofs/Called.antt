@@ -7,9 +7,7 @@ use Rattle.nv_model.specs.declared.nv.Nv as nv
 use Rattle.nv_model.specs.Moments.{Image, Nested, Elapses}
 use Rattle.nv_model.specs.Meters.{Meters}
 use Rattle.nv_store.specs.Turns.{End, Kept, Made, Cut, Faulted, Turn, Spent}
-use Rattle.node_acts.specs.declared.act.Act.{Act}
-use Rattle.node_acts.specs.declared.act.Act.TheVariants.{Refuse, Tell, Commits}
-use Rattle.node_acts.specs.declared.act.Outcome.{Outcome}
+use Rattle.node_acts.specs.declared.{act.Act.Act, act.Act.TheVariants.Refuse, act.Act.TheVariants.Tell, act.Act.TheVariants.Commits, act.Outcome.Outcome}
 use Rattle.node_acts.specs.declared.act.Outcome.TheVariants as o
 use Rattle.node_acts.specs.Acts.{commit_in, commit_of, outcome_in, outcome_of, MayCome, TellsOf, CommitsSome, CameOf, after_call, cost, has_failed}
 use Rattle.node_acts.specs.Views.{View, torn}

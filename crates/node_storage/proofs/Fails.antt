@@ -1,7 +1,6 @@
 -- What a commit that failed cost, and whether the node goes on.
 use Rattle.std.proofs.Common.{◌≡◌, ℕ, false, Ok, Err, Result, IsErrOf, OnOk, refl}
-use Rattle.bench_base.specs.declared.refusals.StoreFail.{StoreFail}
-use Rattle.bench_base.specs.declared.refusals.StoreFail.TheVariants.{Power, Fault, Worn, Failed}
+use Rattle.bench_base.specs.declared.{refusals.StoreFail.StoreFail, refusals.StoreFail.TheVariants.Power, refusals.StoreFail.TheVariants.Fault, refusals.StoreFail.TheVariants.Worn, refusals.StoreFail.TheVariants.Failed}
 use Rattle.nv_model.specs.Meters.{Meters}
 use Rattle.std.specs.Prelude.{is_ok}
 use Rattle.nv_model.specs.declared.nv.Nv.{Ghosts}

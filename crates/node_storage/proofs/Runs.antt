@@ -1,19 +1,13 @@
 -- What a call of a running node did, by how its commit ended.
 use Rattle.std.proofs.Common.{◌≡◌, ◌≢◌, List, ℕ, Option, Some, None, Ok, Err, Result, Bool, true, false, not, is_some, is_ok, refl, sym, ◌∙◌, ap, subst}
-use Rattle.bench_base.specs.declared.ledger.Commit.{Commit}
-use Rattle.bench_base.specs.declared.refusals.Fail.{Fail}
-use Rattle.bench_base.specs.declared.refusals.Fail.TheVariants.{Refused, Store}
-use Rattle.bench_base.specs.declared.refusals.StoreFail.{StoreFail}
-use Rattle.bench_base.specs.declared.refusals.StoreFail.TheVariants.{Power, Fault, Worn, Failed}
+use Rattle.bench_base.specs.declared.{ledger.Commit.Commit, refusals.Fail.Fail, refusals.Fail.TheVariants.Refused, refusals.Fail.TheVariants.Store, refusals.StoreFail.StoreFail, refusals.StoreFail.TheVariants.Power, refusals.StoreFail.TheVariants.Fault, refusals.StoreFail.TheVariants.Worn, refusals.StoreFail.TheVariants.Failed}
 use Rattle.nv_model.specs.declared.nv.Nv as nv
 use Rattle.nv_model.specs.Moments.{Image}
 use Rattle.nv_store.specs.Turns.{End, Kept, Made, Turn, Spent}
-use Rattle.node_acts.specs.declared.act.Act.{Act}
-use Rattle.node_acts.specs.declared.act.Act.TheVariants.{Refuse, Tell, Commits}
+use Rattle.node_acts.specs.declared.{act.Act.Act, act.Act.TheVariants.Refuse, act.Act.TheVariants.Tell, act.Act.TheVariants.Commits}
 use Rattle.node_acts.specs.Acts.{commit_in, cost}
 use Rattle.node_acts.specs.Results.{result_in}
-use Rattle.node_storage.specs.declared.node.Node.{Ghosts}
-use Rattle.node_storage.specs.declared.running.Running.{Running}
+use Rattle.node_storage.specs.declared.{node.Node.Ghosts, running.Running.Running}
 use Rattle.node_storage.specs.Does.{Stores, Writes}
 use Rattle.node_storage.specs.Ends.{begins, begins_to_write, end_of_commit, end_of_result, leaves_running}
 use Rattle.node_storage.specs.Performed.{seen_with, ShowsAfter, Tore, Does, Wrote}
@@ -25,7 +19,7 @@ pub none_torn : (o : Option Commit) → is_some o ≡ false → o ≡ None
 none_torn None is = refl
 none_torn (Some c) is = cc
 
--- by whether the node is on behind a commit that was not made
+-- by whether the node is on after a commit that was not made
 pub only_worn : (fail : StoreFail) → true ≡ leaves_running (Err fail) → fail ≢ Failed → fail ≡ Worn
 only_worn Power on not_failed = cc
 only_worn Fault on not_failed = cc

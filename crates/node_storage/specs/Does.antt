@@ -1,11 +1,8 @@
 -- What the calls of a node do to its record and its storage.
 use Rattle.std.specs.Prelude.{◌≡◌, ◌↔◌, ◌⊎◌, List, ℕ, Bool, true, Result, Ok, Err, OnOk, OnErr, IsErrOf}
-use Rattle.bench_base.specs.declared.refusals.BootFail.{BootFail}
+use Rattle.bench_base.specs.declared.{refusals.BootFail.BootFail, refusals.StoreFail.StoreFail, refusals.StoreFail.TheVariants.Worn, refusals.StoreFail.TheVariants.Failed}
 use Rattle.bench_base.specs.declared.refusals.BootFail.TheVariants as boot
-use Rattle.bench_base.specs.declared.refusals.StoreFail.{StoreFail}
-use Rattle.bench_base.specs.declared.refusals.StoreFail.TheVariants.{Worn, Failed}
-use Rattle.nv_model.specs.declared.nv.Nv.{Ghosts}
-use Rattle.nv_model.specs.declared.nv.NvFail.{NvFail}
+use Rattle.nv_model.specs.declared.{nv.Nv.Ghosts, nv.NvFail.NvFail}
 use Rattle.nv_model.specs.Meters.{Restarts, UsesExactly}
 use Rattle.nv_model.specs.Moments.{Elapses}
 use Rattle.nv_store.specs.Fills.{Fill, Fills, told}
@@ -55,7 +52,7 @@ pub record Stores {S : Type 0} (g : Ghosts S) (IsOld IsNew : List ℕ → Type 0
   pub spent : Spends g 6 before now end
   pub size : g.size now ≡ g.size before
 
--- by bytes: where it began to write it fills the slot whose turn it is, and where it was made it used four calls or six
+-- by bytes: if it began to write, it fills the next slot of the cell, and if it was made, it used four calls or six
 pub record Writes {S : Type 0} (g : Ghosts S) (w : Fill) (before now : S) (began made : Bool) : Type 0 where
   pub fills : g.tells → began ≡ true → Fills w (told g before) (told g now) made
   pub calls : made ≡ true → UsesCommit (g.meters before).fuse (g.meters now).fuse

@@ -1,16 +1,11 @@
 -- How a call of a node ended for its storage.
 use Rattle.std.specs.Prelude.{Result, Ok, Err, Option, Some, None, Bool, true, false}
-use Rattle.bench_base.specs.declared.ledger.Commit.{Commit}
-use Rattle.bench_base.specs.declared.refusals.BootFail.{BootFail}
+use Rattle.bench_base.specs.declared.{ledger.Commit.Commit, refusals.BootFail.BootFail, refusals.Fail.Fail, refusals.Fail.TheVariants.Refused, refusals.Fail.TheVariants.Store, refusals.StoreFail.StoreFail}
 use Rattle.bench_base.specs.declared.refusals.BootFail.TheVariants as boot
-use Rattle.bench_base.specs.declared.refusals.Fail.{Fail}
-use Rattle.bench_base.specs.declared.refusals.Fail.TheVariants.{Refused, Store}
-use Rattle.bench_base.specs.declared.refusals.StoreFail.{StoreFail}
 use Rattle.bench_base.specs.declared.refusals.StoreFail.TheVariants as store
 use Rattle.nv_store.specs.Turns.{End, Kept, Made, Cut, Faulted}
-use Rattle.node_acts.specs.declared.act.Outcome.{Outcome}
+use Rattle.node_acts.specs.declared.{act.Outcome.Outcome, act.Started.Started}
 use Rattle.node_acts.specs.declared.act.Outcome.TheVariants as o
-use Rattle.node_acts.specs.declared.act.Started.{Started}
 use Rattle.node_acts.specs.declared.act.Started.TheVariants as start
 
 -- a boot; none writes
@@ -60,7 +55,7 @@ begins_to_write (Err (Store store.Fault)) = true
 begins_to_write (Err (Store store.Worn)) = false
 begins_to_write (Err (Store store.Failed)) = false
 
--- whether a call came to what its act tells
+-- whether a call came to what its act answers
 abbrev pub is_done : {F A : Type 0} → Outcome F A → Bool
 is_done o.Off = false
 is_done (o.Refused x) = false

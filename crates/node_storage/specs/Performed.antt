@@ -1,9 +1,6 @@
 -- A call that answers a result, of a value that keeps a node and the commit of it that failed.
 use Rattle.std.specs.Prelude.{◌≡◌, ◌≢◌, List, ℕ, Option, Some, None, Result, Ok, Err, is_ok}
-use Rattle.bench_base.specs.declared.ledger.Commit.{Commit}
-use Rattle.bench_base.specs.declared.refusals.Fail.{Fail}
-use Rattle.bench_base.specs.declared.refusals.Fail.TheVariants.{Refused, Store}
-use Rattle.bench_base.specs.declared.refusals.StoreFail.TheVariants.{Power, Fault, Worn, Failed}
+use Rattle.bench_base.specs.declared.{ledger.Commit.Commit, refusals.Fail.Fail, refusals.Fail.TheVariants.Refused, refusals.Fail.TheVariants.Store, refusals.StoreFail.TheVariants.Power, refusals.StoreFail.TheVariants.Fault, refusals.StoreFail.TheVariants.Worn, refusals.StoreFail.TheVariants.Failed}
 use Rattle.nv_model.specs.declared.nv.Nv as nv
 use Rattle.nv_store.specs.Fills.{Fill}
 use Rattle.nv_store.specs.Turns.{End, Turn}
@@ -19,8 +16,8 @@ abbrev pub seen_with : {S : Type 0} → Option (Commit × S) → S → S
 seen_with None s = s
 seen_with (Some x) s = x.1
 
--- Values T over storages S, whose records count so, are written so and are shown so: the storage of each, its record, and the
--- commit of it that failed. The act of a call is given.
+-- Values T over storages S: how their records count, how they are written, and how they are shown. For each value there are
+-- its storage, its record, and its commit that failed, if one did. The act of a call is given.
 module _ {T S R X : Type 0} (g : nv.Ghosts S) (n : Counting R X) (fill : R → X → Fill) (IsShown : R → List ℕ → Type 0) (storage : T → S) (seen : T → R)
     (torn : T → Option Commit) {F A : Type 0} (act : Act X F A) where
   -- the commit of the act, with the record that it makes
@@ -56,12 +53,12 @@ module _ {T S R X : Type 0} (g : nv.Ghosts S) (n : Counting R X) (fill : R → X
   Does old new (Err (Refused x)) = Did old new (Err (Refused x))
   Does old new (Ok a) = Did old new (Ok a)
 
-  -- what a call of a value that had not failed wrote: if it commits, the slot whose turn it is, whole once it is done
+  -- what a call of a value that had not failed wrote: if it commits, the next slot of the cell, whole once it is done
   abbrev pub Wrote : T → T → Result A (Fail F) → Type 0
   Wrote old new result = OfCommit (λ c x. Writes g (fill (seen old) x) (storage old) (storage new) (begins_to_write result) (is_ok result)) act
 
-  -- What the call did, answered and left. A value of which a commit failed answers `Failed` to each call and stays as it
-  -- is; a call that commits nothing leaves the value and its storage as they were.
+  -- What the call did, answered and left. Once a commit of a value failed, the value answers `Failed` to each call and
+  -- stays as it is. A call that commits nothing leaves the value and its storage as they were.
   pub record Performed (old new : T) (result : Result A (Fail F)) : Type 0 where
     pub failed : torn old ≢ None → (result ≡ Err (Store Failed)) × (new ≡ old)
     pub does : torn old ≡ None → Does old new result

@@ -1,12 +1,9 @@
 -- What contracts see of a running node, and of a call of it that answers a result.
 use Rattle.std.specs.Prelude.{◌≡◌, Option, None, Result, false, not, is_some}
-use Rattle.bench_base.specs.declared.ledger.Commit.{Commit}
-use Rattle.bench_base.specs.declared.refusals.Fail.{Fail}
+use Rattle.bench_base.specs.declared.{ledger.Commit.Commit, refusals.Fail.Fail}
 use Rattle.nv_model.specs.declared.nv.Nv as nv
-use Rattle.node_acts.specs.declared.act.Act.{Act}
-use Rattle.node_acts.specs.declared.act.Act.TheVariants.{Commits}
-use Rattle.node_storage.specs.declared.node.Node.{Ghosts}
-use Rattle.node_storage.specs.declared.running.Running.{Running}
+use Rattle.node_acts.specs.declared.{act.Act.Act, act.Act.TheVariants.Commits}
+use Rattle.node_storage.specs.declared.{node.Node.Ghosts, running.Running.Running}
 use Rattle.node_storage.specs.Performed.{Performed}
 use Rattle.node_storage.specs.Shown.{CanCommit}
 

@@ -1,8 +1,7 @@
 -- What the storage of a node may show, by what the bench sees of it.
 use Rattle.std.specs.Prelude.{◌≡◌, ◌⊎◌, ℕ, ◌+◌, List, Option, Some, None, IfSome}
 use Rattle.bench_base.specs.declared.ledger.Commit.{Commit}
-use Rattle.node_acts.specs.declared.act.Act.{Act}
-use Rattle.node_acts.specs.declared.act.Act.TheVariants.{Commits}
+use Rattle.node_acts.specs.declared.{act.Act.Act, act.Act.TheVariants.Commits}
 use Rattle.node_acts.specs.Views.{View}
 use Rattle.node_acts.specs.Acts.{OfCommit}
 use Rattle.node_storage.specs.declared.node.Node.{Ghosts}

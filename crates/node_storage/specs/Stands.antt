@@ -16,7 +16,7 @@ pub record HasFuse (s : FuseState) (calls kept filled : ℕ) : Type 0 where
   pub byte : s.byte ≡ filled
 
 module _ {K S N C R : Type 0} (n : Ghosts K S N C R) where
-  -- its storage is none of node d
+  -- its storage is not a valid storage of node d
   abbrev pub HasDamage : N → K → Type 0
   HasDamage d k = n.IsDamaged d (n.storage k)
 

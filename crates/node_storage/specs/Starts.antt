@@ -22,7 +22,8 @@ module _ {K S N C R : Type 0} (n : Ghosts K S N C R) (g : nv.Ghosts S) where
   StartsOnce s t start.Fault = Unit {0}
   StartsOnce s t start.Damaged = g.size (n.storage s) ≡ n.bytes → SpendsOne g (n.storage s) (n.storage t)
 
-  -- Node d was to be switched on. Nothing is written, and `Damaged` comes if and only if what was read is none of it.
+  -- Node d was to be switched on. Nothing is written, and `Damaged` is returned if and only if what was read is not a valid
+  -- storage of it.
   pub record StartDoes (d : N) (s t : K) (result : Started) : Type 0 where
     pub already : (result ≡ start.Already) ↔ (n.is_on s ≡ true)
     pub leaves : n.is_on t ≡ leaves_on result

@@ -48,7 +48,7 @@ pub trait Node: Sized {
     /// An image that shows this record.
     ghost IsShown: { Seen → List ℕ → Type 0 };
 
-    /// The storage is none of the node.
+    /// The storage is not a valid storage of the node.
     ghost IsDamaged: { Self.Name → Self.Storage → Type 0 };
 
     /// What a commit leaves as it was beside the record.
@@ -139,7 +139,7 @@ pub trait Node: Sized {
         → Self.Storage.size nv ≡ bytes → IsDamaged d nv → ⊥ };
 }
 
-/// A node whose storage has a fuse.
+/// A node over storage with a fuse.
 pub trait Arms: Node {
     ghost use Rattle.nv_model.specs.declared.fuse.Fuse.{Ghosts};
 

@@ -40,8 +40,8 @@ pub fn stop<K: Node>(node: &mut K) -> bool
     true
 }
 
-/// Does what a call of the node decided on. The record of a node that is on can take what is committed. A node whose
-/// commit fails is switched off.
+/// Does what a call of the node decided on. The record of a node that is on can take what is committed. If a commit fails,
+/// its node is switched off.
 #[inline(always)]
 pub fn perform<K: Node, F: Copy, A: Copy>(node: &mut K, act: &Act<K::Change, F, A>) -> Outcome<F, A>
     requires fits { K.Node.is_on node.old ≡ true → CanCommit K.Node (K.Node.seen node.old) act.now }

@@ -2,12 +2,9 @@
 use Rattle.std.proofs.Common.{◌≡◌, ◌≢◌, ◌⊎◌, inl, inr, ℕ, ℤ, ◌≤◌, List, [], ◌∷◌, ◌++◌, append-nil, Option, Some, None, Bool, true, false, not, ◌&&◌, ◌↔◌, refl, sym, ◌∙◌, ap, subst, true≢false, arith, if◌then◌else◌}
 use Rattle.std.specs.Prelude.{IfSome}
 use Rattle.std.proofs.Math.Bool.{and-true, and-false}
-use Rattle.bench_base.specs.declared.words.Node.{Node}
-use Rattle.bench_base.specs.declared.ledger.Commit.{Commit}
+use Rattle.bench_base.specs.declared.{words.Node.Node, ledger.Commit.Commit, events.Event.Event, events.Reply.Reply}
 use Rattle.bench_base.specs.declared.ledger.Entry.TheVariants as entry
-use Rattle.bench_base.specs.declared.events.Event.{Event}
 use Rattle.bench_base.specs.declared.events.Event.TheVariants as ev
-use Rattle.bench_base.specs.declared.events.Reply.{Reply}
 use Rattle.bench_base.specs.declared.events.Reply.TheVariants as r
 use Rattle.bench_base.specs.Events.{node_for, needs_on, may_commit, calls_of, IsAt}
 use Rattle.bench_base.specs.Ledger.{Ledger}
@@ -20,18 +17,12 @@ use Rattle.nv_model.specs.Meters.{Meters, Uses}
 use Rattle.nv_store.specs.Mounts.{Mounts}
 use Rattle.nv_store.specs.Store.{UsesCommit}
 use Rattle.nv_store.specs.Turns.{Spent}
-use Rattle.node_acts.specs.declared.act.Act.{Act}
-use Rattle.node_acts.specs.declared.act.Act.TheVariants.{Refuse, Tell, Commits}
-use Rattle.node_acts.specs.declared.act.Outcome.{Outcome}
+use Rattle.node_acts.specs.declared.{act.Act.Act, act.Act.TheVariants.Refuse, act.Act.TheVariants.Tell, act.Act.TheVariants.Commits, act.Outcome.Outcome, asked.Asked.TheVariants.Call, said.Said.Said, said.GivenOut.GivenOut, said.GivenOut.TheVariants.Released, said.GivenOut.TheVariants.Printed}
 use Rattle.node_acts.specs.declared.act.Outcome.TheVariants as o
-use Rattle.node_acts.specs.declared.asked.Asked.TheVariants.{Call}
-use Rattle.node_acts.specs.declared.said.Said.{Said}
 use Rattle.node_acts.specs.Views.{View}
 use Rattle.node_acts.specs.Acts.{cost, has_failed, commit_of, outcome_in, MayCome, TellsOf, CommitsSome, CameOf}
 use Rattle.node_acts.specs.Acts as acts
 use Rattle.node_acts.specs.Plans.{after, with_commit, act_entries, MayReply, view_after, IsOfNode}
-use Rattle.node_acts.specs.declared.said.GivenOut.{GivenOut}
-use Rattle.node_acts.specs.declared.said.GivenOut.TheVariants.{Released, Printed}
 use Rattle.node_acts.specs.Said.{IsPlain, planned_commit, with_given, with_sent, tells, seen_plan, said_reply, said_entries}
 use Rattle.node_acts.specs.Kinds.{Kind}
 use Rattle.node_acts.proofs.Told.{Tells, tells_call}
@@ -71,7 +62,7 @@ pub record MayRefuse (m : Node) (e : Event) (x : Reply) : Type 0 where
   pub not_off : x ≢ r.OffNode m
   pub gets : MayGet e x
 
--- it may be told so
+-- it may be reported so
 pub record MaySay (e : Event) (a : Said) : Type 0 where
   pub told : class_of a.reply ≡ Did
   pub gets : MayGet e a.reply
@@ -131,7 +122,7 @@ module _ {X : Type 0} (m : Node) (e : Event) where
   adds_by (Commits c x b) a told of = subst (λ (y : Said). AddsDone e (report_of y.reply) (in_order (tells b ++ entry.Commit c ∷ []))) of
       (told.1.adds (Some c) (λ none. no (sym none ∙ told.0.commits)))
 
--- == the commit that is told ==
+-- == the commit that is reported ==
 
 none_said : (given : Option GivenOut) (sent : Option (List ℕ)) → made_in (in_order (with_sent sent ++ with_given given)) ≡ None
 none_said None None = refl
@@ -152,7 +143,7 @@ some_said (Some (Printed x)) (Some note) c = refl
 none_some : {A P : Type 0} (o : Option A) (a : A) → o ≡ None → o ≡ Some a → P
 none_some o a none some = let wrong : None ≡ Some a = sym none ∙ some in cc
 
--- the commit that is told is the node's, and used four calls or six
+-- the commit that is reported is the node's, and used four calls or six
 call_uses : {X : Type 0} (m : Node) (e : Event) (act : Act X Reply Said) → IsToldBy m e act → (x : Outcome Reply Said) → CameOf act x → (was is : Meters) → UsesMade act x was is
     → (c : Commit) → made_in (in_order (said_entries m act x)) ≡ Some c → (node_of c ≡ m) × UsesCommit was.fuse is.fuse
 call_uses m e act told o.Off came was is uses c made = cc
@@ -165,7 +156,7 @@ call_uses m e act told o.Worn came was is uses c made = cc
 call_uses m e act told (o.Power d) came was is uses c made = cc
 call_uses m e act told (o.Fault d) came was is uses c made = cc
 
--- so is the commit of the act alone
+-- the same holds of the commit of the act alone
 pub made_uses : {X : Type 0} (m : Node) (e : Event) (act : Act X Reply Said) → IsToldBy m e act → (a : Said) → TellsOf a act → (was is : Meters) → UsesMade act (o.Done a) was is
     → (c : Commit) → made_in (in_order (with_commit (planned_commit act) [])) ≡ Some c → (node_of c ≡ m) × UsesCommit was.fuse is.fuse
 made_uses m e (Refuse y) told a of was is uses c made = absurd of
@@ -177,7 +168,7 @@ made_some (Refuse y) some none = some
 made_some (Tell b) some none = some
 made_some (Commits d x b) some none = cc
 
--- where no commit is told and none failed, the node is as it was
+-- if no commit is reported and none failed, the node is as it was
 call_rests : {X : Type 0} (m : Node) (act : Act X Reply Said) (x : Outcome Reply Said) → CameOf act x → (P : Type 0) → (acts.is_refusal x ≡ true → P)
     → ((CommitsSome (λ c. Unit {0}) act → ⊥) → P) → said_reply m x ≢ r.Power m → said_reply m x ≢ r.Fault m → made_in (in_order (said_entries m act x)) ≡ None → P
 call_rests m act o.Off came P refused only powered fine made = refused refl
@@ -230,7 +221,7 @@ module _ {X : Type 0} (m : Node) (e : Event) (of : IsCallOf m e) (act : Act X Re
   call_adds (o.Power c) came = inr (c, commits_by m e (λ made. made ≡ c) act told came, refl)
   call_adds (o.Fault c) came = inr (c, commits_by m e (λ made. made ≡ c) act told came, refl)
 
-  -- neither a refusal nor that it was done tells of a failure
+  -- neither a refusal nor an answer that it was done reports a failure
   no_power : (x : Reply) (t : ReplyClass) → class_of x ≡ t → loses_power m t ≡ false → tells_power m x ≡ true → {P : Type 0} → P
   no_power x t is isnt claims = no (sym (ap (loses_power m) is ∙ isnt) ∙ claims)
 

@@ -1,25 +1,14 @@
 -- A node that was called, and what was printed of what it gave to the printer.
 use Rattle.std.proofs.Common.{◌≡◌, inl, inr, ℕ, ℤ, ◌≤◌, List, [], ◌∷◌, ◌++◌, Option, Some, None, option_map, Bool, true, false, refl, sym, ◌∙◌, ap, subst, arith, if◌then◌else◌}
-use Rattle.bench_base.specs.declared.words.Node.{Node}
-use Rattle.bench_base.specs.declared.ledger.Commit.{Commit}
-use Rattle.bench_base.specs.declared.ledger.Entry.{Entry}
+use Rattle.bench_base.specs.declared.{words.Node.Node, ledger.Commit.Commit, ledger.Entry.Entry, events.Event.Event, events.Reply.Reply}
 use Rattle.bench_base.specs.declared.ledger.Entry.TheVariants as entry
-use Rattle.bench_base.specs.declared.events.Event.{Event}
-use Rattle.bench_base.specs.declared.events.Reply.{Reply}
 use Rattle.bench_base.specs.declared.events.Reply.TheVariants as r
 use Rattle.bench_base.specs.Replies.{ReplyClass, Did, Refused, PrinterFailed, class_of, arms, leaves_on, MayGet}
 use Rattle.bench_base.specs.Plans.{Plan, refuse, made}
 use Rattle.nv_model.specs.declared.nv.Nv as nv
 use Rattle.nv_model.specs.declared.fuse.Fuse as fuse
-use Rattle.node_acts.specs.declared.act.Act.{Act}
-use Rattle.node_acts.specs.declared.act.Act.TheVariants.{Refuse, Tell, Commits}
-use Rattle.node_acts.specs.declared.act.Outcome.{Outcome}
+use Rattle.node_acts.specs.declared.{act.Act.Act, act.Act.TheVariants.Refuse, act.Act.TheVariants.Tell, act.Act.TheVariants.Commits, act.Outcome.Outcome, asked.Asked.TheVariants.Call, said.Said.Said, said.Printed.Printed as Print, said.GivenOut.GivenOut, said.GivenOut.TheVariants.Released, said.GivenOut.TheVariants.Printed}
 use Rattle.node_acts.specs.declared.act.Outcome.TheVariants as o
-use Rattle.node_acts.specs.declared.asked.Asked.TheVariants.{Call}
-use Rattle.node_acts.specs.declared.said.Said.{Said}
-use Rattle.node_acts.specs.declared.said.Printed.{Printed as Print}
-use Rattle.node_acts.specs.declared.said.GivenOut.{GivenOut}
-use Rattle.node_acts.specs.declared.said.GivenOut.TheVariants.{Released, Printed}
 use Rattle.node_acts.specs.Views.{View}
 use Rattle.node_acts.specs.Acts.{MayCome, TellsOf, commit_of, outcome_in}
 use Rattle.node_acts.specs.Plans.{after_told, with_commit, done_plan, act_entries, FailsTold, MayReply, view_told}
@@ -63,7 +52,7 @@ print_acts (Refuse x) a of = absurd of
 print_acts (Tell b) a of = print_tells b.given b.sent ∙ ap (λ (y : Said). option_map (λ (p : Print). p.mark) (print_in y.given)) of
 print_acts (Commits c x b) a of = print_more (tells b) (Some c) ∙ print_tells b.given b.sent ∙ ap (λ (y : Said). option_map (λ (p : Print). p.mark) (print_in y.given)) of
 
--- of a plan whose reply tells that it was done
+-- what a plan prints, if the reply reports that it was done
 print_planned : (p : Plan) (t : ReplyClass) → t ≡ Did → print_of (after_told p t []) ≡ print_of p.after
 print_planned p t is = ap (λ (u : ReplyClass). print_of (after_told p u [])) is ∙ print_more p.after p.commit
 
@@ -168,7 +157,7 @@ module _ {K S N C R X : Type 0} (n : Ghosts K S N C R) (g : nv.Ghosts S) (f : fu
           answers v (inr (inl up)) = let wrong : r.Printed p.job ≡ r.Up m _ = sym reply_is ∙ up.2 in cc
           answers v (inr (inr failing)) = absurd (subst (λ (u : ReplyClass). FailsTold (kind.plan d today v call) u) said.told failing)
 
-  -- a call that was not done, or that gives nothing to the printer, is told so
+  -- a call that was not done, or that gives nothing to the printer, is reported so
   not_printed : (x : Outcome Reply Said) → Called n g by s t x → to_print x ≡ None → (job : ℕ) → said_reply m x ≡ r.Printed job → ⊥
   not_printed o.Off did none job is = cc
   not_printed (o.Refused y) did none job is = let t : Did ≡ Refused = sym (ap class_of is) ∙ (refuses_by m e act y (told (n.seen s)) did.does.came).told in cc
@@ -185,7 +174,7 @@ module _ {K S N C R X : Type 0} (n : Ghosts K S N C R) (g : nv.Ghosts S) (f : fu
   not_failed (o.Power c) did job is = cc
   not_failed (o.Fault c) did job is = cc
 
-  -- what is told of the call, and what the printer took
+  -- what is reported of the call, and what the printer took
   pub record TurnPrinted (turn : Turn) (before now : Printer) : Type 0 where
     pub did : NodeTurn n g f kind m d today e (Call call) s t turn
     pub prints : NodePrints n g kind m d today (Call call) s turn.reply before now

@@ -1,17 +1,12 @@
--- What a call did, said: its refusals are replied and its answers said, and nothing else of it changes.
+-- What a call did, in replies: its refusals are replied and its answers said, and the rest of it stays as it is.
 use Rattle.std.proofs.Common.{◌≡◌, ℕ, Option, Some, None, Bool, true, false, not, ◌&&◌, ◌↔◌, if◌then◌else◌, refl, sym, ◌∙◌, ap, subst, true≢false}
 use Rattle.std.specs.Prelude.{IfSome}
-use Rattle.bench_base.specs.declared.words.Node.{Node}
-use Rattle.bench_base.specs.declared.ledger.Commit.{Commit}
-use Rattle.bench_base.specs.declared.events.Reply.{Reply}
+use Rattle.bench_base.specs.declared.{words.Node.Node, ledger.Commit.Commit, events.Reply.Reply}
 use Rattle.nv_model.specs.declared.nv.Nv as nv
 use Rattle.nv_store.specs.Turns.{End, Spent}
 use Rattle.nv_store.specs.Turns as stored
-use Rattle.node_acts.specs.declared.act.Act.{Act}
-use Rattle.node_acts.specs.declared.act.Act.TheVariants.{Refuse, Tell, Commits}
-use Rattle.node_acts.specs.declared.act.Outcome.{Outcome}
+use Rattle.node_acts.specs.declared.{act.Act.Act, act.Act.TheVariants.Refuse, act.Act.TheVariants.Tell, act.Act.TheVariants.Commits, act.Outcome.Outcome, said.Said.Said}
 use Rattle.node_acts.specs.declared.act.Outcome.TheVariants as o
-use Rattle.node_acts.specs.declared.said.Said.{Said}
 use Rattle.node_acts.specs.Acts.{commit_of, outcome_in, outcome_of, MayCome, MayTear, TellsOf, CommitsSome, CameOf, after_call, cost, has_failed, is_refusal}
 use Rattle.node_acts.specs.Said.{saying, planned_commit}
 use Rattle.node_acts.specs.Views.{Counting, View}
@@ -150,7 +145,7 @@ module _ {F A : Type 0} (refusal : F → Reply) (say : A → Said) where
   may_told {S} n v act (o.Power c) may = subst (λ (made : Option (Commit × S)). MayTear c made) (sym (made_says n v act)) may
   may_told {S} n v act (o.Fault c) may = subst (λ (made : Option (Commit × S)). MayTear c made) (sym (made_says n v act)) may
 
-  -- how it is told, by the act of the call, which is this one said
+  -- how it is reported, by the act of the call, which is this one as said
   pub told_said : {X : Type 0} (IsOf : Turn → Type 0) (m : Node) (act : Act X F A) (by : Act X Reply Said) (x : Outcome F A) → by ≡ as_said act → CameOf act x
       → IsOf (told_turn m (commit_in act) (as_told x)) → IsOf (call_turn m by (as_told x))
   told_said {X} IsOf m act by x made came told =
@@ -200,7 +195,7 @@ module _ {F A K S N C R : Type 0} (refusal : F → Reply) (n : Ghosts K S N C R)
 -- == a call, by the act of the record ==
 
 module _ {K S N C R : Type 0} (n : Ghosts K S N C R) (g : nv.Ghosts S) (by : n.Seen → Act C Reply Said) (act : Act C Reply Said) (s t : K) (on : n.is_on s ≡ true) (is : by (n.seen s) ≡ act) where
-  -- a node that is on has the record of each view for which it stands
+  -- a node that is on has the record of each view that it represents
   same_act : (d : N) (v : View n.Seen) → Stands n g d v s → g.tells → act ≡ by v.state
   same_act d v st tells = sym is ∙ ap by ((st.runs (sym st.on ∙ on)).seen tells)
 

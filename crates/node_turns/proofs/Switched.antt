@@ -1,7 +1,6 @@
--- A node that was switched on or off, and one whose fuse was armed.
+-- A node that was switched on or off, or had its fuse armed.
 use Rattle.std.proofs.Common.{◌≡◌, ◌≢◌, inl, inr, ℕ, ℤ, List, [], ◌∷◌, Some, None, Bool, true, false, if◌then◌else◌, ◌↔◌, refl, sym, ◌∙◌, ap, subst, true≢false, arith}
-use Rattle.bench_base.specs.declared.words.Node.{Node}
-use Rattle.bench_base.specs.declared.ledger.Commit.{Commit}
+use Rattle.bench_base.specs.declared.{words.Node.Node, ledger.Commit.Commit}
 use Rattle.bench_base.specs.declared.ledger.Entry.TheVariants as entry
 use Rattle.bench_base.specs.declared.events.Event.TheVariants as ev
 use Rattle.bench_base.specs.declared.events.Reply.TheVariants as r
@@ -14,9 +13,8 @@ use Rattle.nv_model.specs.declared.fuse.Fuse as fuse
 use Rattle.nv_model.specs.Meters.{Meters}
 use Rattle.nv_store.specs.Mounts.{Mounts}
 use Rattle.nv_store.specs.Turns.{Spent}
-use Rattle.node_acts.specs.declared.act.Started.{Started}
+use Rattle.node_acts.specs.declared.{act.Started.Started, asked.Asked.TheVariants.On, asked.Asked.TheVariants.Off, asked.Asked.TheVariants.Cut}
 use Rattle.node_acts.specs.declared.act.Started.TheVariants as start
-use Rattle.node_acts.specs.declared.asked.Asked.TheVariants.{On, Off, Cut}
 use Rattle.node_acts.specs.Views.{Counting, View, stopped}
 use Rattle.node_acts.specs.Starts.{MayStart, after_start, leaves_on, HasRead}
 use Rattle.node_acts.specs.Plans.{after, MayReply, view_after}
@@ -80,7 +78,7 @@ module _ {S X : Type 0} (n : Counting S X) (m : Node) where
   stop_entries true = refl
   stop_entries false = refl
 
--- == whatever the storage tells ==
+-- == whether or not the storage exposes its contents ==
 
 module _ (m : Node) where
   start_gets : (x : Started) → MayGet (ev.On m) (start_turn m x).reply

@@ -1,12 +1,9 @@
--- A call on its way to be told: the commit of its act, what it came to in the words of the call, and what it used of a fuse.
+-- A call that is to be reported: the commit of its act, what it came to in the words of the call, and what it used of a
+-- fuse.
 use Rattle.std.specs.Prelude.{◌≡◌, [], ◌++◌, true, Option, Some, None}
-use Rattle.bench_base.specs.declared.ledger.Commit.{Commit}
-use Rattle.bench_base.specs.declared.events.Reply.{Reply}
-use Rattle.node_acts.specs.declared.act.Act.{Act}
-use Rattle.node_acts.specs.declared.act.Act.TheVariants.{Refuse, Tell, Commits}
-use Rattle.node_acts.specs.declared.act.Outcome.{Outcome}
+use Rattle.bench_base.specs.declared.{ledger.Commit.Commit, events.Reply.Reply}
+use Rattle.node_acts.specs.declared.{act.Act.Act, act.Act.TheVariants.Refuse, act.Act.TheVariants.Tell, act.Act.TheVariants.Commits, act.Outcome.Outcome, said.Said.Said}
 use Rattle.node_acts.specs.declared.act.Outcome.TheVariants as o
-use Rattle.node_acts.specs.declared.said.Said.{Said}
 use Rattle.node_acts.specs.Plans.{with_commit}
 use Rattle.node_acts.specs.Said.{tells}
 use Rattle.nv_model.specs.declared.nv.Nv as nv

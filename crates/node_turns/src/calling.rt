@@ -1,9 +1,7 @@
-//! A call of one node, and how it is told.
+//! A call of one node, and how it is reported.
 ghost use Rattle.std.specs.Prelude.{◌≡◌, true};
 ghost use Rattle.bench_base.specs.declared.events.Reply.{Reply};
-ghost use Rattle.node_acts.specs.declared.act.Act.{Act};
-ghost use Rattle.node_acts.specs.declared.act.Outcome.{Outcome};
-ghost use Rattle.node_acts.specs.declared.said.Said.{Said};
+ghost use Rattle.node_acts.specs.declared.{act.Act.Act, act.Outcome.Outcome, said.Said.Said};
 ghost use Rattle.node_acts.specs.Said.{saying};
 ghost use Rattle.node_turns.specs.declared.turn.Turn.{Turn};
 ghost use Rattle.node_turns.specs.Printing as prints;
@@ -29,7 +27,7 @@ fn commit_in<X: Copy, F: Copy, A: Copy>(act: &Act<X, F, A>) -> Option<Commit>
     }
 }
 
-// How a call with this act that was done is told.
+// How a call with this act that was done is reported.
 fn done<T: Tell, K: Node, E: Callee, C: Call<E, K, K::Change>>(
     callee: &E,
     act: &Act<K::Change, E::Refusal, C::Answer>,
@@ -41,14 +39,15 @@ fn done<T: Tell, K: Node, E: Callee, C: Call<E, K, K::Change>>(
     T::done(commit_in(act), &call.answer(callee, answer))
 }
 
-// How a call with this act is told, by what it came to.
+// How a call with this act is reported, by what it came to.
 fn told<T: Tell, K: Node, E: Callee, C: Call<E, K, K::Change>>(
     callee: &E,
     act: &Act<K::Change, E::Refusal, C::Answer>,
     outcome: &Outcome<E::Refusal, C::Answer>,
     call: &C,
 ) -> T
-    ensures { T.IsOf result (turns.told_turn (E.named callee.now) (commit_in act.now) (said_outcome (E.refuses callee.now) (C.says call.now callee.now) outcome.now)) }
+    ensures { T.IsOf result (turns.told_turn (E.named callee.now) (commit_in act.now)
+        (said_outcome (E.refuses callee.now) (C.says call.now callee.now) outcome.now)) }
 {
     let node = &callee.name();
     match outcome {
@@ -73,8 +72,8 @@ fn told<T: Tell, K: Node, E: Callee, C: Call<E, K, K::Change>>(
     }
 }
 
-/// Calls the node, and tells what that came to. A node that is off decides nothing. `fits`: the record of a node that is on can take
-/// what the call makes of it.
+/// Calls the node, and reports what that came to. A node that is off decides nothing. `fits`: the record of a node that is
+/// on can take what the call makes of it.
 pub fn call_node<T: Tell, K: Node, E: Callee, C: Call<E, K, K::Change>>(
     place: &mut K,
     callee: &E,
@@ -116,7 +115,7 @@ fn to_print<K: Node, E: Callee, C: Call<E, K, K::Change>>(
     }
 }
 
-// The printer failed behind this commit.
+// The printer failed after this commit.
 fn unprinted<T: Tell>(commit: Option<Commit>, job: u32) -> T
     ensures { T.IsOf result (prints.unprinted_turn commit job) }
 {
@@ -126,8 +125,8 @@ fn unprinted<T: Tell>(commit: Option<Commit>, job: u32) -> T
     }
 }
 
-/// Calls the node, prints the mark that it gives to the printer, and tells what that came to. The mark is printed after the commit,
-/// as one line; where the printer fails, the commit stays. `fits` as of `call_node`.
+/// Calls the node, prints the mark that it gives to the printer, and reports what that came to. The mark is printed after
+/// the commit, as one line; if the printer fails, the commit stays. `fits` is as for `call_node`.
 pub fn call_printing<T: Tell, K: Node, E: Callee, C: Call<E, K, K::Change>, P: Sink>(
     place: &mut K,
     callee: &E,

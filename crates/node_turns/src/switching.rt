@@ -1,4 +1,4 @@
-//! A node that is switched on or off, or has its fuse armed, and how that is told.
+//! A node that is switched on or off, or has its fuse armed, and how that is reported.
 ghost use Rattle.std.specs.Prelude.{Bool, []};
 ghost use Rattle.bench_base.specs.declared.events.Reply.{Reply};
 ghost use Rattle.node_acts.specs.declared.act.Started.{Started};

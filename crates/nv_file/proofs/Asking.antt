@@ -1,4 +1,4 @@
--- Where a read had its bytes from.
+-- The source of the bytes of a read.
 use Rattle.std.proofs.Common.{◌≡◌, ℕ, List, Bool, true, false, None, refl}
 use Rattle.nv_file.specs.Aheads.{Fetched}
 use Rattle.nv_file.specs.declared.ahead.Ahead.{Ahead}

@@ -16,7 +16,7 @@ abbrev pub Has : Ahead → ℕ → List ℕ → List ℕ → Bool → Type 0
 Has a at old new true = (w : Range) × (a.window ≡ Some w) × (w.0 ≤ at) × (at + length old ≤ w.1) × (new ≡ take (length old) (drop (at - w.0) a.bytes.items))
 Has a at old new false = new ≡ old
 
--- Where a read of a range had its bytes from. Without the system they are those that were kept before; from the system they are
+-- The source of the bytes of a read. If the system was not asked, they are those that were kept before. If it was, they are
 -- those of what is kept now, or nothing is kept.
 pub record Fetched (before now : Ahead) (at : ℕ) (old new : List ℕ) (went : Bool) : Type 0 where
   pub kept : now.asked ≡ false → (went ≡ true) × Has before at old new true

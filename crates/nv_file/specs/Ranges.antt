@@ -1,7 +1,7 @@
 -- Ranges of a file.
 use Rattle.std.specs.Prelude.{ℕ, ◌||◌, Bool, false, min, max, nat_lt, if◌then◌else◌, Option, Some, None}
 
--- a range, by its first place and the place behind it
+-- a range, by its first place and the place after it
 abbrev pub Range : Type 0
 Range = ℕ × ℕ
 

@@ -1,4 +1,4 @@
-//! A part of a file that was read at once, of which smaller reads are answered.
+//! A part of a file that was read at once, to answer smaller reads.
 ghost use Rattle.std.specs.Prelude.{◌≡◌, ◌≤◌, None, IfOk, true, false};
 
 use std::alloc::{AllocError, Global};
@@ -8,15 +8,15 @@ use std::os::unix::fs::FileExt;
 /// The most bytes that are read at once.
 const PIECE: u32 = 65_536;
 
-/// How many bytes before the place that is asked for are read too: a whole cell of the widest table, whose payload may lie
-/// before the last of its gates.
+/// How many bytes before the place that is asked for are read too: a whole cell of the widest table, since its payload may
+/// lie before the last of its gates.
 const BEHIND: u32 = 4_128;
 
 /// A part of a file in memory, as it was read at once.
 #[derive(Drop)]
 pub struct Ahead {
     pub(crate) bytes: Vec<u8>,
-    /// The first place that the bytes are of, and the place behind the last; None where nothing was read.
+    /// The place of the first of the bytes, and the place after the last; None if nothing was read.
     pub(crate) window: Option<(u32, u32)>,
     /// Whether anything is read ahead.
     reads: bool,

@@ -1,11 +1,11 @@
-//! What is remembered of a clean end, behind which a start uses the storages as they are.
+//! What is remembered of a clean end, after which a start uses the storages as they are.
 use crate::starting::StoreFile;
 use crate::whole::{create, sync_folder};
 use std::fs::{self, File, Files};
 use std::io::{self, Read, Write};
 use std::os::unix::fs::MetadataExt;
 
-/// The file in which a clean end is remembered.
+/// The file that remembers a clean end.
 pub const CLEAN: &str = ".clean";
 
 /// Its first line, which names its form.
@@ -41,7 +41,7 @@ pub fn recall<R: Files<File = File> + AllocGlobal>(rt: &R) -> Option<String> {
     }
 }
 
-/// Whether each of these storages is what it was at the clean end of which this is remembered.
+/// Whether each of these storages is what it was at the clean end that is remembered.
 pub fn are_as_remembered<R: Files<File = File> + AllocGlobal>(
     rt: &R,
     files: &[StoreFile],
@@ -53,7 +53,7 @@ pub fn are_as_remembered<R: Files<File = File> + AllocGlobal>(
     })
 }
 
-/// Forgets the clean end. That is on the disk before a storage is written.
+/// Forgets the clean end. This is on the disk before a storage is written.
 pub fn forget<R: Files<File = File>>(rt: &R) -> io::Result<()> {
     fs::remove_file(rt, CLEAN)?;
     sync_folder(rt, CLEAN)

@@ -14,16 +14,16 @@ use std::os::unix::fs::FileExt;
 /// How many bytes are written again at once.
 const PIECE: u32 = 4096;
 
-/// A call on the file or its folder failed, lack of memory in it included; the name is that of a link or of something else
-/// that is no file; the file has a second name, or more than 4,294,967,295 bytes; or it belongs to a user or a group that a new
-/// file can't be given.
+/// A storage in a file can't start, for one of four reasons. A call on the file or its folder failed, lack of memory in it
+/// included. The name is that of a link, or of something that is not a file. The file has a second name, or more than
+/// 4,294,967,295 bytes. It belongs to a user or a group that a new file can't be given.
 #[derive(Clone, Copy, Debug, PartialEq, Eq)]
 pub struct StartFault;
 
-/// Storage in a file. Each call that fails answers Fault and is counted; no power is ever lost, and there is no plan and
-/// no fuse. That the file holds what was written and keeps what was synced is not proved.
+/// Storage in a file. Each call that fails answers Fault and is counted; no power is ever lost, and there is no plan and no
+/// fuse. It is not proved that the file holds what was written and keeps what was synced.
 ///
-/// After a write or a sync that failed a read may show bytes that the disk hasn't got, and the system takes them for
+/// After a failed write or sync, a read may show bytes that the disk hasn't got, and the system takes them for
 /// written. So the next sync or restart writes again what was written since the last sync that succeeded, and until one
 /// has succeeded no write begins.
 #[derive(Drop)]
@@ -31,7 +31,7 @@ pub struct FileNv {
     file: File,
     size: u32,
     faults: u64,
-    /// The range that was written since the last sync that succeeded: its first place, and the place behind it.
+    /// The range that was written since the last sync that succeeded: its first place, and the place after it.
     range: Option<(u32, u32)>,
     /// Whether a write or a sync failed since then.
     failed: bool,
@@ -51,9 +51,9 @@ impl FileNv {
     ghost use Rattle.nv_file.specs.Aheads.{Fetched};
     ghost use Rattle.nv_file.specs.Files.{unsynced, nothing_unsynced};
 
-    /// Uses the file at a path, whatever its length, or makes it with `size` zero bytes where there is none. What was there
-    /// is written to a new file, which takes the name once it is on the disk: so what is read is on the disk too, and power
-    /// may be cut meanwhile. The new file has the owner, the group and the mode of the old one.
+    /// Uses the file at a path, whatever its length, or makes it with `size` zero bytes if there is no such file. What was
+    /// there is written to a new file, which takes the name once it is on the disk. So what is read is on the disk too, and
+    /// power may be cut meanwhile. The new file has the owner, the group and the mode of the old one.
     pub fn start<R: Files<File = File> + AllocGlobal>(
         rt: &R,
         path: &str,
@@ -103,7 +103,7 @@ impl FileNv {
         FileNv::over(rt.alloc(), file, size)
     }
 
-    // The storage in a file of so many bytes, all of which are on the disk.
+    // The storage in a file of so many bytes, which are all on the disk.
     fn over(alloc: Global, file: File, size: u32) -> Result<FileNv, StartFault>
         ensures unharmed { IfOk result (λ nv. ⟦<FileNv as Nv>⟧.meters nv ≡ unharmed) }
         ensures synced { IfOk result (λ nv. unsynced nv ≡ nothing_unsynced) }
@@ -158,8 +158,8 @@ impl FileNv {
         self.ahead.read(&self.file, at, buf)
     }
 
-    /// Writes a range, and answers whether that went well. Where places lie between it and what is not synced yet, that is
-    /// synced before.
+    /// Writes a range, and answers whether that went well. If places lie between it and what is not synced yet, the
+    /// unsynced bytes are synced before.
     fn put(&mut self, at: u32, bytes: &[u8]) -> bool
         requires { at + length bytes.now ≤ self.old.size }
         ensures range { (self.new.range ≡ Some (joined self.old.range (at, at + length bytes.now)))
@@ -271,7 +271,7 @@ impl Nv for FileNv {
         self.answer(true)
     }
 
-    /// Where nothing is unsynced nothing is asked of the system.
+    /// If nothing is unsynced, nothing is asked of the system.
     fn restart(&mut self) -> Result<(), NvFail> {
         self.ahead.forget();
         if self.range.is_none() && !self.failed {

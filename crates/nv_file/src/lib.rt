@@ -1,4 +1,4 @@
-//! Storage in a file: the trusted edge, which tells contracts nothing of its content.
+//! Storage in a file: the trusted edge, which exposes nothing of its content to contracts.
 #![tactic(auto)]
 
 mod ahead;

@@ -1,4 +1,5 @@
-//! Storages that start together: behind a clean end as they are, otherwise none takes its name before the bytes of all are on the disk.
+//! Storages that start together: after a clean end as they are, otherwise none takes its name before the bytes of all are
+//! on the disk.
 ghost use Rattle.std.specs.Prelude.{◌≡◌, ◌↔◌, ◌++◌, ◌<◌, IfOk, IsSome, length, option_to_list};
 ghost use Rattle.std.specs.List.{All};
 ghost use Rattle.nv_model.specs.Meters.{unharmed};
@@ -18,12 +19,13 @@ pub struct StoreFile {
     pub bytes: u32,
 }
 
-/// Storages whose bytes are on the disk, each in a new file beside its place, or behind a clean end in its own. No storage is changed yet.
+/// Storages with all their bytes on the disk, each in a new file beside its place, or in its own file after a clean end. No
+/// storage is changed yet.
 #[derive(Drop)]
 pub struct Starting<'a> {
     files: &'a [StoreFile],
     stores: Vec<FileNv>,
-    /// Of each new file, whether there was none of its name.
+    /// Whether each new file is the first of its name.
     firsts: Vec<bool>,
     /// What was remembered of the last clean end.
     remembered: Option<String>,
@@ -32,8 +34,8 @@ pub struct Starting<'a> {
 }
 
 impl Starting<'_> {
-    /// Prepares each storage: as it is where a clean end is remembered of all of them, otherwise as `FileNv::start` does. Where one can't be used its name is
-    /// answered, nothing that was prepared is left, and no storage is changed.
+    /// Prepares each storage: as it is if a clean end is remembered of all of them, otherwise as `FileNv::start` does. If
+    /// one can't be used, its name is answered, nothing that was prepared is left, and no storage is changed.
     pub fn prepare<'a, R: Files<File = File> + AllocGlobal>(
         rt: &R,
         files: &'a [StoreFile],
@@ -102,8 +104,8 @@ impl Starting<'_> {
         })
     }
 
-    /// Hands out the last storage, so that it can be read before any takes its name; it takes its name with the others. None if
-    /// there is none left.
+    /// Hands out the last storage, so that it can be read before any takes its name; it takes its name with the others.
+    /// None if no storage is left.
     pub fn take_last(&mut self) -> Option<FileNv>
         ensures last { stores_of self.old ≡ stores_of self.new ++ option_to_list result }
         ensures some { IsSome result ↔ (0 < length (stores_of self.old)) }
@@ -163,7 +165,7 @@ pub fn remove_part<R: Files<File = File> + AllocGlobal>(rt: &R, name: &str) {
     whole::discard(rt, name);
 }
 
-// Removes those of the first files, so many, of whose names there were none.
+// Removes each of the first `named` files that is the first of its name.
 fn remove_firsts<R: Files<File = File>>(
     rt: &R,
     files: &[StoreFile],

@@ -11,7 +11,7 @@ pub const PART: &str = ".part";
 /// How many bytes are copied at once.
 const PIECE_BYTES: u32 = 65_536;
 
-/// A new file whose bytes are on the disk, beside the place whose name it is to take.
+/// A new file with all its bytes on the disk, beside the place that it is to take.
 #[derive(Drop)]
 pub struct Part {
     pub file: File,
@@ -20,9 +20,9 @@ pub struct Part {
     pub is_first: bool,
 }
 
-/// Writes the bytes of the file of a name, or `size` zero bytes if there is none, to a new file beside its place, whose name
-/// ends in `PART`. They are on the disk then; if that fails no part is left. What was there may be bytes that the system shows
-/// and the disk hasn't got, and what may be on the disk is never written over.
+/// Writes the bytes of the file of a name, or `size` zero bytes if there is no such file, to a new file beside its place,
+/// with a name that ends in `PART`. They are on the disk then; if that fails, no part is left. What was there may be bytes
+/// that the system shows and the disk hasn't got, and what may be on the disk is never written over.
 pub fn prepare<R: Files<File = File> + AllocGlobal>(
     rt: &R,
     path: &str,
@@ -79,8 +79,9 @@ fn refused() -> io::Error {
     io::Error::from(io::ErrorKind::InvalidInput)
 }
 
-/// The file of a name, None if there is none. A symbolic link is refused, also one that leads nowhere, and so is whatever is
-/// no file. So is a file with another name: that would keep the old bytes, and whoever starts over it has the same money again.
+/// The file of a name; None if there is no such file. A symbolic link is refused, also one that leads nowhere, and anything
+/// that is not a file. A file with another name is refused too: that would keep the old bytes, and whoever starts over it
+/// would have the same money again.
 pub(crate) fn find<R: Files<File = File>>(rt: &R, path: &str) -> io::Result<Option<File>> {
     let named = match fs::symlink_metadata(rt, path) {
         Ok(named) => named,
@@ -157,7 +158,7 @@ fn copy<R: Files<File = File>>(
     Ok((file, size))
 }
 
-/// Gives a new file the owner, the group and the mode of another. What then belongs to someone else is refused.
+/// Gives a new file the owner, the group and the mode of another. It is refused if its owner or group still differs.
 fn hand_over(file: &File, old: &Metadata) -> io::Result<()> {
     if holders(&file.metadata()?) != holders(old) {
         fchown(file, Some(old.uid()), Some(old.gid()))?;

@@ -5,8 +5,7 @@ use Rattle.std.proofs.lemmas.Bool.{cases_lt}
 use Rattle.nv_model.specs.Bytes.{SameOutside}
 use Rattle.nv_model.specs.Moments.{IsImage, RangeWritten, Unwritten, Writes}
 use Rattle.std.specs.Result.{IsErrOf}
-use Rattle.nv_model.specs.declared.nv.NvFail.{NvFail}
-use Rattle.nv_model.specs.declared.nv.NvFail.TheVariants.{Power, Fault}
+use Rattle.nv_model.specs.declared.{nv.NvFail.NvFail, nv.NvFail.TheVariants.Power, nv.NvFail.TheVariants.Fault}
 
 -- a byte outside a changed range
 pub byte_outside : (at n : ℕ) (old new : List ℕ) (i : ℕ) → SameOutside at n old new → (i < at) ⊎ (at + n ≤ i) → get_or new i 0 ≡ get_or old i 0

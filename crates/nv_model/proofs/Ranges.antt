@@ -9,7 +9,7 @@ range_before at n a b o m same le =
     let front : (l : List ℕ) → range l o m ≡ drop o (take (o + m) (take at l)) = λ l. sym (drop-take o m l) ∙ ap (λ (k : List ℕ). drop o k) (sym (take-take (o + m) at l le)) in
     front b ∙ ap (λ (l : List ℕ). drop o (take (o + m) l)) same.before ∙ sym (front a)
 
--- a range behind it
+-- a range after the change
 pub range_behind : (at n : ℕ) (a b : List ℕ) (o m : ℕ) → SameOutside at n a b → at + n ≤ o → range b o m ≡ range a o m
 range_behind at n a b o m same le =
     let skip = o - (at + n) in

@@ -5,8 +5,7 @@ use Rattle.std.proofs.lemmas.List.{take-append-le, drop-append-le, take_all, get
 use Rattle.nv_model.specs.Bytes.{SameOutside, laid, range}
 use Rattle.nv_model.specs.Moments.{IsImage, Writes}
 use Rattle.nv_model.specs.Replay.{Stand, after_step, replay, at_first, stood, marked, Passed, Stands, SinceMoment, fits_all, within}
-use Rattle.nv_model.specs.declared.step.Step.{Step}
-use Rattle.nv_model.specs.declared.step.Step.TheVariants.{Written, Torn, Synced}
+use Rattle.nv_model.specs.declared.{step.Step.Step, step.Step.TheVariants.Written, step.Step.TheVariants.Torn, step.Step.TheVariants.Synced}
 use Rattle.nv_model.proofs.Ranges.{laid_outside, laid_range}
 use Rattle.nv_model.proofs.Images.{byte_outside, image_alone}
 
@@ -66,7 +65,7 @@ module _ (bytes more : List ℕ) (steps : List Step) (x : Step) (start : List �
   long : length (steps ++ x ∷ []) ≡ length steps + 1
   long = length-append steps (x ∷ [])
 
-  -- what stood at the end is passed now
+  -- an image of the moment that was the last is now one of a moment that the record passed
   passes : (t : ℕ) (c : List ℕ) → Stands bytes steps start marks t c → Passed (bytes ++ more) (steps ++ x ∷ []) start t c
   passes t c stands =
       let same = stood_more bytes more steps x start (length steps) (omega arith) fits ∙ stood_end bytes steps start in

@@ -30,7 +30,7 @@ elapses_twice old mid new nested first second = record {
 pub since_twice : (old mid new : Times) (c : List ℕ) → Elapses old mid → Elapses mid new → new.since old.moment c → mid.since old.moment c ⊎ new.since mid.moment c
 since_twice old mid new c first second now = second.nothing_else old.moment c first.later now
 
--- a call that changes no image, behind one
+-- a call that changes no image, after another call
 pub stays_behind : (old mid new : Times) → Nested mid → Elapses old mid → Elapses mid new → Stays mid new → (c : List ℕ) → new.since old.moment c → mid.since old.moment c
 stays_behind old mid new nested first second stays c now =
     ⊎_elim (λ was. was) (λ later. nested old.moment mid.moment c first.later (stays c later)) (second.nothing_else old.moment c first.later now)

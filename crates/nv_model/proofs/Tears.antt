@@ -47,7 +47,7 @@ torn_outside old at piece keep byte room =
     let long : length whole ≡ n = omega (arith, length-append (take keep piece) (replicate (n - keep) byte), length-replicate (n - keep) byte, length-take keep piece) in
     subst (λ (m : ℕ). SameOutside at m old (laid old at whole)) long (laid_outside old at whole (omega (arith, long, room)))
 
--- bytes, and then those behind them
+-- bytes, and then those after them
 pub laid_next : (old : List ℕ) (at : ℕ) (a b : List ℕ) → at + length a + length b ≤ length old → laid (laid old at a) (at + length a) b ≡ laid old at (a ++ b)
 laid_next old at a b room =
     let front = take at old in
@@ -71,7 +71,7 @@ run_next old at m n byte room =
     let long' : length b ≡ n = length-replicate n byte in
     ap (λ (k : ℕ). laid (laid old at a) (at + k) b) (sym long) ∙ laid_next old at a b (omega (arith, long, long', room)) ∙ ap (λ (l : List ℕ). laid old at l) (replicate-append-replicate m n byte)
 
--- the same of the contents that stood in between
+-- the same, with the contents in between named
 pub run_more : (old mid new : List ℕ) (at m n byte : ℕ) → at + m + n ≤ length old → mid ≡ laid old at (replicate m byte) → new ≡ laid mid (at + m) (replicate n byte) → new ≡ laid old at (replicate (m + n) byte)
 run_more old mid new at m n byte room was now = now ∙ ap (λ (l : List ℕ). laid l (at + m) (replicate n byte)) was ∙ run_next old at m n byte room
 

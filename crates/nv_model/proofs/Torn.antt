@@ -1,14 +1,12 @@
 -- A range filled with a byte, and marks for writes that the record has no room for.
 use Rattle.std.proofs.Common.{◌≡◌, ◌⊎◌, inl, inr, ⊎_elim, ℕ, ◌+◌, ◌≤◌, List, [], ◌∷◌, ◌++◌, length, get_or, replicate, Bool, true, false, ◌||◌, sym, ◌∙◌, ap, subst, arith, refl, length-append}
-use Rattle.std.proofs.lemmas.Bool.{cases_lt, or_right}
+use Rattle.std.proofs.lemmas.Bool.{cases_lt, or_right, and_parts, and_from}
 use Rattle.std.proofs.lemmas.List.{append-nil, take-append-le, take_all}
 use Rattle.nv_model.specs.Bytes.{laid}
 use Rattle.nv_model.specs.Moments.{Times, Tears, IsImage, Writes}
 use Rattle.nv_model.specs.Replay.{Stand, after_step, replay, at_first, stood, marked, Stands, SinceMoment, fits_all}
-use Rattle.nv_model.specs.declared.step.Step.{Step}
-use Rattle.nv_model.specs.declared.step.Step.TheVariants.{Written, Torn, Synced}
+use Rattle.nv_model.specs.declared.{step.Step.Step, step.Step.TheVariants.Written, step.Step.TheVariants.Torn, step.Step.TheVariants.Synced}
 use Rattle.nv_model.proofs.Replayed.{replay_push, stood_end, pushed_keeps, pushed_else, image_before}
-use Rattle.std.proofs.lemmas.Bool.{and_parts, and_from}
 
 module _ (bytes : List ℕ) (steps : List Step) (at n byte : ℕ) (start : List ℕ) (fits : fits_all (length bytes) steps ≡ true) where
   abbrev torn : Step

@@ -3,12 +3,12 @@ use Rattle.std.specs.Prelude.{◌≡◌, ℕ, Bool, true, false, List, length, R
 use Rattle.nv_model.specs.Bytes.{SameOutside, laid, range}
 use Rattle.nv_model.specs.Meters.{Meters, Answers, Restarts, after_call, burns}
 use Rattle.nv_model.specs.Moments.{Times, Image, Only, Elapses, Tears, Stays, Writes, Unwritten, SamePlaces}
-use Rattle.nv_model.specs.declared.nv.NvFail.{NvFail}
-use Rattle.nv_model.specs.declared.nv.NvFail.TheVariants.{Power, Fault}
+use Rattle.nv_model.specs.declared.{nv.NvFail.NvFail, nv.NvFail.TheVariants.Power, nv.NvFail.TheVariants.Fault}
 
--- the ghost members of a storage: whether it tells its bytes, its size, what a read gives, what was made sure of last and
--- which places were written since, its moment and images, and its counts
-module _ {S : Type 0} (tells : Type 0) (size_of : S → ℕ) (content_of base_of : S → List ℕ) (written_in : S → ℕ → Bool) (times_of : S → Times) (meters_of : S → Meters)
+-- The ghost members of a storage. It exposes its bytes or not, and has a size. Its contents are what a read gives, what was
+-- last made durable, and which places were written since. It has its moment and images, and its counts.
+module _ {S : Type 0} (tells : Type 0) (size_of : S → ℕ) (content_of base_of : S → List ℕ) (written_in : S → ℕ → Bool) (times_of : S → Times)
+    (meters_of : S → Meters)
     (before now : S) where
   -- a read of these bytes, from `at` on
   pub record DidRead (at : ℕ) (bytes : List ℕ) (result : Result (Unit {0}) NvFail) : Type 0 where

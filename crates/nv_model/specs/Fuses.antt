@@ -3,16 +3,14 @@ use Rattle.std.specs.Prelude.{◌≡◌, ◌⊎◌, ℕ, List, length, Bool, tru
 use Rattle.nv_model.specs.Meters.{burns, Failing}
 use Rattle.nv_model.specs.Moments.{Only}
 use Rattle.nv_model.specs.Plans.{torn, last_filled, last_after_write, last_after_sync}
-use Rattle.nv_model.specs.declared.nv.NvFail.{NvFail}
-use Rattle.nv_model.specs.declared.nv.Nv.{Ghosts}
-use Rattle.nv_model.specs.declared.fused.Fused.{Fused}
+use Rattle.nv_model.specs.declared.{nv.NvFail.NvFail, nv.Nv.Ghosts, fused.Fused.Fused}
 
 -- the storage inside
 abbrev pub inside : {N : Type 0} {g : Ghosts N} → Fused N g → N
 inside s = s.nv
 
--- whether power is lost, how many calls an armed fuse has left, what a tear keeps of a range and what it fills the rest
--- with, and the range of the last write that succeeded since the last sync or restart that succeeded
+-- Whether power is lost, and how many calls an armed fuse has left. What a tear keeps of a range, and what it fills the
+-- rest with. The range of the last write that succeeded since the last sync or restart that succeeded.
 pub record FuseState : Type 0 where
   pub lost : Bool
   pub fuse : Option ℕ

@@ -23,9 +23,11 @@ module _ (bytes : List ℕ) (steps : List Step) (start : List ℕ) where
   image_now marks c now = ⊎_elim (λ passed. absurd (omega (arith, passed.from, passed.passed))) (λ stands. stands.image) now
 
   pub content_image : (marks : List Bool) (c : List ℕ) → IsImage stand.base stand.written c → Image (times marks) c
-  content_image marks c image = now_image marks c (record { size = image.size; same = λ i not. image.same i (or_parts (stand.written i) (get_or marks i false) not).0 })
+  content_image marks c image = now_image marks c
+      (record { size = image.size; same = λ i not. image.same i (or_parts (stand.written i) (get_or marks i false) not).0 })
 
-  pub since_sized : (size : ℕ) (marks : List Bool) (t : ℕ) (c : List ℕ) → ((k : ℕ) → length (stood bytes steps start k).base ≡ size) → SinceMoment bytes steps start marks t c → length c ≡ size
+  pub since_sized : (size : ℕ) (marks : List Bool) (t : ℕ) (c : List ℕ) → ((k : ℕ) → length (stood bytes steps start k).base ≡ size)
+      → SinceMoment bytes steps start marks t c → length c ≡ size
   since_sized size marks t c all now = ⊎_elim
       (λ passed. passed.image.size ∙ all passed.k)
       (λ stands. stands.image.size ∙ sym (ap (λ (s : Stand). length s.base) end) ∙ all (length steps))

@@ -3,9 +3,7 @@ use Rattle.std.specs.Prelude.{◌≡◌, ℕ, ◌+◌, List, length, Bool, false
 use Rattle.nv_model.specs.Meters.{Meters, unharmed}
 use Rattle.nv_model.specs.Plans.{planned, read_answer, call_answer, restart_answer, write_leaves, sync_leaves, last_after_write, last_after_sync, next_number, room_taken, after_answer, after_restart}
 use Rattle.nv_model.specs.Tallies.{meters_of}
-use Rattle.nv_model.specs.declared.memory.MemNv.{MemNv}
-use Rattle.nv_model.specs.declared.nv.NvFail.{NvFail}
-use Rattle.nv_model.specs.declared.plan.Failure.{Failure}
+use Rattle.nv_model.specs.declared.{memory.MemNv.MemNv, nv.NvFail.NvFail, plan.Failure.Failure}
 
 pub record Memory : Type 0 where
   -- what a read gives

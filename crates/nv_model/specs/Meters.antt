@@ -1,8 +1,7 @@
 -- What a storage counts, and the causes of its answers.
 use Rattle.std.specs.Prelude.{◌≡◌, ◌⊎◌, ℕ, ◌+◌, ◌<◌, zero, suc, Bool, true, false, Option, Some, None, IsSome, IsNone, Result, IsErrOf, IsOk, Ok, ◌≤◌}
 use Rattle.bench_base.specs.Causes.{Rose}
-use Rattle.nv_model.specs.declared.nv.NvFail.{NvFail}
-use Rattle.nv_model.specs.declared.nv.NvFail.TheVariants.{Power, Fault}
+use Rattle.nv_model.specs.declared.{nv.NvFail.NvFail, nv.NvFail.TheVariants.Power, nv.NvFail.TheVariants.Fault}
 
 pub record Meters : Type 0 where
   pub cuts : ℕ

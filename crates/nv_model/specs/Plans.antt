@@ -1,10 +1,8 @@
--- The calls that a storage in memory is told to fail, and what it answers and leaves.
+-- The calls that a storage in memory is set to fail, and what it answers and leaves.
 use Rattle.std.specs.Prelude.{ℕ, ◌+◌, ◌-◌, ◌^◌, min, List, [], ◌∷◌, ◌++◌, length, take, replicate, Bool, true, false, Option, Some, None, Result, Ok, Err, if◌then◌else◌, ◌==◌}
 use Rattle.nv_model.specs.Bytes.{laid}
 use Rattle.nv_model.specs.Meters.{Meters}
-use Rattle.nv_model.specs.declared.nv.NvFail.{NvFail}
-use Rattle.nv_model.specs.declared.nv.NvFail.TheVariants.{Power, Fault}
-use Rattle.nv_model.specs.declared.plan.Failure.{Failure}
+use Rattle.nv_model.specs.declared.{nv.NvFail.NvFail, nv.NvFail.TheVariants.Power, nv.NvFail.TheVariants.Fault, plan.Failure.Failure}
 
 -- the first entry with the number of this call
 abbrev pub planned : List Failure → ℕ → Option Failure

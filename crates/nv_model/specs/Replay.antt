@@ -2,10 +2,9 @@
 use Rattle.std.specs.Prelude.{◌⊎◌, ℕ, ◌+◌, ◌≤◌, ◌<◌, List, [], ◌∷◌, length, take, replicate, get_or, Bool, true, false, ◌||◌, ◌&&◌, nat_le, nat_lt}
 use Rattle.nv_model.specs.Bytes.{laid, range}
 use Rattle.nv_model.specs.Moments.{IsImage}
-use Rattle.nv_model.specs.declared.step.Step.{Step}
-use Rattle.nv_model.specs.declared.step.Step.TheVariants.{Written, Torn, Synced}
+use Rattle.nv_model.specs.declared.{step.Step.Step, step.Step.TheVariants.Written, step.Step.TheVariants.Torn, step.Step.TheVariants.Synced}
 
--- what stands at a moment: what a read gives, the content after the last sync or restart, and the places written since
+-- the state at a moment: what a read gives, the content after the last sync or restart, and the places written since
 pub record Stand : Type 0 where
   pub content : List ℕ
   pub base : List ℕ
@@ -17,7 +16,8 @@ within at n i = nat_le at i && nat_lt i (at + n)
 
 -- one call of the record: a write left these of the written bytes in its range, a sync that failed filled a range, or a sync or restart succeeded
 abbrev pub after_step : List ℕ → Step → Stand → Stand
-after_step bytes (Written at n first) s = record { content = laid s.content at (range bytes first n); base = s.base; written = λ i. s.written i || within at n i }
+after_step bytes (Written at n first) s = record
+    { content = laid s.content at (range bytes first n); base = s.base; written = λ i. s.written i || within at n i }
 after_step bytes (Torn at n byte) s = record { content = laid s.content at (replicate n byte); base = s.base; written = s.written }
 after_step bytes Synced s = record { content = s.content; base = s.content; written = λ i. false }
 
@@ -29,7 +29,7 @@ replay bytes (step ∷ steps) s = replay bytes steps (after_step bytes step s)
 abbrev pub at_first : List ℕ → Stand
 at_first start = record { content = start; base = start; written = λ i. false }
 
--- what stood after k calls of the record
+-- the state after k calls of the record
 abbrev pub stood : List ℕ → List Step → List ℕ → ℕ → Stand
 stood bytes steps start k = replay bytes (take k steps) (at_first start)
 

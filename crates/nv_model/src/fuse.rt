@@ -1,4 +1,4 @@
-//! Storage whose power can be cut by a fuse.
+//! Storage with a fuse that can cut its power.
 ghost use Rattle.std.specs.Prelude.{◌≡◌};
 ghost use Rattle.nv_model.specs.Fuses as fuses;
 ghost use Rattle.nv_model.specs.Still.{SameTimes, armed, with_fuse};
@@ -13,7 +13,7 @@ pub trait Fuse: Nv {
     /// The fuse, and what it tears.
     ghost fuse_of: { Self → FuseState };
 
-    /// Arms the fuse: see `Fused::arm`. Nothing else changes.
+    /// Arms the fuse: see `Fused::arm`. Only the fuse changes.
     fn arm(&mut self, calls: u32, keep: u32, byte: u8)
         ensures armed { fuse_of self.new ≡ armed calls keep byte (fuse_of self.old) }
         ensures times { SameTimes (Self.times self.old) (Self.times self.new) }

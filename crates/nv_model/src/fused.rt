@@ -11,7 +11,7 @@ use crate::tear::{tear_last, tear_write};
 pub struct Fused<N: Nv> {
     nv: N,
     lost: bool,
-    /// Of an armed fuse, how many calls pass before it burns.
+    /// How many calls pass before an armed fuse burns.
     fuse: Option<u32>,
     /// What a tear keeps of its range, in bytes.
     keep: u32,

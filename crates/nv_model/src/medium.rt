@@ -27,7 +27,8 @@ pub struct Medium {
     ghost size: { length start.items ≡ length content.items },
     ghost replayed: { (replay bytes.items steps.items (at_first start.items)).content ≡ content.items },
     ghost based: { (k : ℕ) → length (stood bytes.items steps.items start.items k).base ≡ length content.items },
-    ghost image: { IsImage (replay bytes.items steps.items (at_first start.items)).base (replay bytes.items steps.items (at_first start.items)).written content.items },
+    ghost image: { IsImage (replay bytes.items steps.items (at_first start.items)).base
+        (replay bytes.items steps.items (at_first start.items)).written content.items },
     ghost marks_size: { length marks.items ≡ length content.items },
     ghost fits: { fits_all (length bytes.items) steps.items ≡ true },
 }

@@ -66,13 +66,15 @@ impl Nv for MemNv {
 
     ghost restart_is = { λ old new result. RestartIs (memory_of old) (memory_of new) result };
 
-    ghost content_is = { λ s tells. content_image s.medium.bytes.items s.medium.steps.items s.medium.start.items s.medium.marks.items s.medium.content.items s.medium.image };
+    ghost content_is = { λ s tells. content_image s.medium.bytes.items s.medium.steps.items s.medium.start.items
+        s.medium.marks.items s.medium.content.items s.medium.image };
 
     ghost image_is = { λ s c tells now. image_now s.medium.bytes.items s.medium.steps.items s.medium.start.items s.medium.marks.items c now };
 
     ghost image_all = { λ s c tells on image. now_image s.medium.bytes.items s.medium.steps.items s.medium.start.items s.medium.marks.items c image };
 
-    ghost sized = { λ s t c tells now. since_sized s.medium.bytes.items s.medium.steps.items s.medium.start.items (length s.medium.content.items) s.medium.marks.items t c s.medium.based now };
+    ghost sized = { λ s t c tells now. since_sized s.medium.bytes.items s.medium.steps.items s.medium.start.items
+        (length s.medium.content.items) s.medium.marks.items t c s.medium.based now };
 
     ghost nested = { λ s tells. since_nested s.medium.bytes.items s.medium.steps.items s.medium.start.items s.medium.marks.items };
 
@@ -162,8 +164,8 @@ impl Nv for MemNv {
 impl MemNv {
     ghost use Rattle.nv_model.specs.Memories.{memory_of, new_memory, fits};
 
-    /// A storage with this content and plan, whose record has room for so many calls and so many written bytes. The content
-    /// has at most 4,294,967,295 bytes. All memory is taken here, and no later call takes any.
+    /// A storage with this content and plan, and a record that has room for so many calls and so many written bytes. The
+    /// content has at most 4,294,967,295 bytes. All memory is taken here, and no later call takes any.
     pub fn new(
         alloc: Global,
         content: Vec<u8>,

@@ -14,7 +14,7 @@ pub enum NvFail {
 
 /// Storage of a fixed number of bytes, which may lose power at any write.
 pub trait Nv {
-    /// Whether storage of this type tells its content and its images.
+    /// Whether storage of this type exposes its content and its images.
     ghost tells: { Type 0 };
 
     /// The number of bytes.
@@ -80,7 +80,7 @@ pub trait Nv {
     /// An image has the bytes of the base at each place that was not written.
     ghost image_is: { (s : Self) (c : List ℕ) → tells → Image (times s) c → IsImage (base s) (written s) c };
 
-    /// While power is not lost, each content that does so is an image.
+    /// While power is not lost, each content with the bytes of the base at those places is an image.
     ghost image_all: { (s : Self) (c : List ℕ) → tells → (meters s).lost ≡ false → IsImage (base s) (written s) c → Image (times s) c };
 
     /// An image has the storage's number of bytes.

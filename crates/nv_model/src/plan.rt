@@ -1,4 +1,4 @@
-//! The calls that a storage in memory is told to fail.
+//! The calls that a storage in memory is set to fail.
 ghost use Rattle.std.specs.Prelude.{◌≡◌};
 ghost use Rattle.nv_model.specs.Plans.{planned};
 

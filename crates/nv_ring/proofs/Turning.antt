@@ -59,7 +59,7 @@ fills_turn start (suc n) i lt lt' = elim (cases_eq i (slot_after start (n + 1)))
 pub fills_of_le : (start n i : ℕ) → start < 16 → i < 16 → fills_of start n i ≤ n / 16 + 1
 fills_of_le start n i lt lt' = turn_bound start n i (fills_of start n i) (fills_turn start n i lt lt')
 
--- the next slot is the one whose turn it is
+-- the next slot is the slot after n + 1 commits
 next_turn : (start n count place : ℕ) → (0 < count → place ≡ slot_after start n) → (count ≡ 0 → (start ≡ 15) × (n ≡ 0)) → next_of count place 16 ≡ slot_after start (n + 1)
 next_turn start n count place turn blank = elim (cases_eq count 0) [
   | inl none ↦ let b = blank none in let s : start ≡ 15 = b.0 in let z : n ≡ 0 = b.1 in grind (arith, nat_tests)

@@ -12,7 +12,7 @@ use Rattle.nv_store.specs.Fills.{filled, closed, IsFilling}
 outside_back : (at n : ℕ) (a b : List ℕ) → SameOutside at n a b → SameOutside at n b a
 outside_back at n a b same = record { size = sym same.size; before = sym same.before; after = sym same.after }
 
--- a slot with its gate closed is as before behind it
+-- closing a slot's gate leaves the bytes after it as before
 pub closed_torn : (size at : ℕ) (old : List ℕ) → at + 1 ≤ length old → SameOutside at 1 old (closed size at old)
 closed_torn size at old room = by_gate (is_some (slot_at size at old))
   where

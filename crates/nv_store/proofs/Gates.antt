@@ -1,14 +1,24 @@
 -- What the three writes of a commit make of a slot.
-use Rattle.std.proofs.Common.{◌≡◌, ◌≢◌, inl, inr, ℕ, ◌+◌, ◌≤◌, ◌<◌, ◌^◌, List, [], ◌∷◌, ◌++◌, length, take, drop, get_or, Option, Some, None, IsSome, sym, ◌∙◌, ap, subst, arith, refl, append_assoc, length-drop}
+use Rattle.std.proofs.Common.{◌≡◌, ◌≢◌, inl, inr, ℕ, ◌+◌, ◌≤◌, ◌<◌, ◌^◌, List, [], ◌∷◌, ◌++◌, length, take, drop, get_or, Option, Some, None, IsSome, Result, sym, ◌∙◌, ap, subst, arith, refl, append_assoc, length-drop}
+use Rattle.std.specs.Prelude.{OnOk}
 use Rattle.std.specs.Int.{to_be_bytes, w32}
 use Rattle.std.proofs.lemmas.Bool.{cases_eq}
+use Rattle.std.proofs.lemmas.Result.{on_ok_weaker}
 use Rattle.std.proofs.lemmas.Bool.Decides.{nat_tests}
 use Rattle.std.proofs.lemmas.Nat.{from_be_bytes-to_be_bytes_4}
 use Rattle.std.proofs.lemmas.List.{length-take-le, get_or_at}
 use Rattle.nv_model.specs.Bytes.{SameOutside, laid, range}
+use Rattle.nv_model.specs.Moments.{Times, Only}
 use Rattle.nv_model.proofs.Ranges.{range_before, range_behind, range_first, outside_wider, laid_outside}
 use Rattle.nv_store.specs.Slot.{Held, slot, slot_at}
-use Rattle.nv_store.specs.Steps.{Slotted, IsShut, IsOrShut, IsOrHolds}
+use Rattle.nv_store.specs.Steps.{Puts, Slotted, Steps, IsShut, IsOrShut, IsOrHolds}
+
+-- a write and a sync are a step on the slot, if the slot is so while they go on and so once they are done
+pub put_steps : {E : Type 0} {at : ℕ} {P Q : Option Held → Type 0} {bytes old new : List ℕ} {before now : Times} (size : ℕ) (result : Result (Unit {0}) E)
+    → Puts at bytes old new before now result → OnOk result (Only now new) → ((c : List ℕ) → SameOutside at (length bytes) old c → Slotted size at P old c)
+    → ((c : List ℕ) → c ≡ laid old at bytes → Slotted size at Q old c) → Steps size at P Q old new before now result
+put_steps {new = new} size result puts durable torn done =
+    record { any_moment = λ c now. torn c (puts.torn c now); done = on_ok_weaker result (done new) puts.done; durable = durable; time = puts.time }
 
 -- a closed gate
 pub shut : (gate : ℕ) (rest : List ℕ) → gate ≢ 165 → slot (gate ∷ rest) ≡ None
@@ -74,7 +84,7 @@ module _ (size at : ℕ) (old : List ℕ) (room : at + 5 + size ≤ length old) 
   behind_long : length (range old (at + 1) (4 + size)) ≡ 4 + size
   behind_long = length-take-le (4 + size) (drop (at + 1) old) (omega (arith, length-drop (at + 1) old))
 
-  -- behind a closed gate anything may stand
+  -- the bytes after a closed gate may be anything
   pub payload_torn : (c : List ℕ) → IsShut (slot_at size at old) → SameOutside (at + 1) (4 + size) old c → Slotted size at IsShut old c
   payload_torn c none torn = record {
     others = outside_wider at (5 + size) (at + 1) (4 + size) old c torn (omega arith) (omega arith);

@@ -1,4 +1,4 @@
--- The slot whose turn it is.
+-- The slot that the next commit fills.
 use Rattle.std.proofs.Common.{◌≡◌, inl, inr, ℕ, ◌+◌, ◌%◌, ◌<◌, List, Bool, true, Option, Some, None, refl, sym, ◌∙◌, ap, arith}
 use Rattle.std.specs.Prelude.{false}
 use Rattle.nv_model.specs.Meters.{UsesExactly}

@@ -15,4 +15,5 @@ not_mixed n slots (inl (i, empty)) clear =
 not_mixed n slots (inr (i, (j, repeat))) clear =
     let first = open_slot (slots i) repeat.open_first in
     let second = open_slot (slots j) repeat.open_second in
-    repeat.differs (clear.distinct i j first.0 second.0 repeat.first repeat.second first.1 second.1 (sym (ap count_of first.1) ∙ repeat.same ∙ ap count_of second.1))
+    repeat.differs (clear.distinct i j first.0 second.0 repeat.first repeat.second first.1 second.1
+    (sym (ap count_of first.1) ∙ repeat.same ∙ ap count_of second.1))

@@ -35,10 +35,12 @@ newer_below (Some a) (Some b) n c left right is = elim (cases_eq_test a.0 b.0) [
     pick_left : b.0 ≤ a.0 → newer (Some a) (Some b) ≡ Some a
     pick_left ge = grind (arith, nat_tests)
 
-current_below : (n : ℕ) (slots : ℕ → Option Held) (m : ℕ) (c : Held) → ((i : ℕ) (a : Held) → i < n → slots i ≡ Some a → a.0 < m) → current n slots ≡ Some c → c.0 < m
+current_below : (n : ℕ) (slots : ℕ → Option Held) (m : ℕ) (c : Held) → ((i : ℕ) (a : Held) → i < n → slots i ≡ Some a → a.0 < m)
+    → current n slots ≡ Some c → c.0 < m
 current_below zero slots m c below is = cc is
 current_below (suc n) slots m c below is =
-    newer_below (current n slots) (slots n) m c (λ a here. current_below n slots m a (λ i b lt. below i b (omega arith)) here) (λ b here. below n b (omega arith) here) is
+    newer_below (current n slots) (slots n) m c (λ a here. current_below n slots m a (λ i b lt. below i b (omega arith)) here)
+    (λ b here. below n b (omega arith) here) is
 
 pub current_top : (n : ℕ) (slots : ℕ → Option Held) (place : ℕ) (held : Held) → Top n slots place held → current n slots ≡ Some held
 current_top zero slots place held top = absurd (omega (arith, top.inside))
@@ -49,7 +51,8 @@ current_top (suc n) slots place held top = elim (cases_eq place n) [
       ∙ newer_right (current n slots) held (λ a was. current_below n slots held.0 a (λ i b lt. top.below i b (omega arith) (omega (arith, is))) was)
   | inr differs ↦
       let inside : place < n = omega (arith, top.inside) in
-      ap (λ (o : Option Held). newer o (slots n)) (current_top n slots place held (record { inside = inside; here = top.here; below = λ i a lt. top.below i a (omega arith) }))
+      ap (λ (o : Option Held). newer o (slots n))
+      (current_top n slots place held (record { inside = inside; here = top.here; below = λ i a lt. top.below i a (omega arith) }))
       ∙ newer_left held (slots n) (λ b was. top.below n b (omega arith) (λ e. differs (sym e)) was)
 ]
 
@@ -59,7 +62,8 @@ current_none (suc n) slots none = ap (λ (o : Option Held). newer o (slots n)) (
 
 pub current_same : (n : ℕ) (slots slots' : ℕ → Option Held) → ((i : ℕ) → i < n → slots' i ≡ slots i) → current n slots' ≡ current n slots
 current_same zero slots slots' same = refl
-current_same (suc n) slots slots' same = ap (λ (o : Option Held). newer o (slots' n)) (current_same n slots slots' (λ i lt. same i (omega arith))) ∙ ap (λ (o : Option Held). newer (current n slots) o) (same n (omega arith))
+current_same (suc n) slots slots' same = ap (λ (o : Option Held). newer o (slots' n)) (current_same n slots slots' (λ i lt. same i (omega arith)))
+    ∙ ap (λ (o : Option Held). newer (current n slots) o) (same n (omega arith))
 
 pub clear_same : (n : ℕ) (slots slots' : ℕ → Option Held) → ((i : ℕ) → i < n → slots' i ≡ slots i) → IsClear n slots → IsClear n slots'
 clear_same n slots slots' same clear = record {

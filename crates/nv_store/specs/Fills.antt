@@ -1,8 +1,7 @@
--- Where a commit goes, and the bytes that it leaves there.
+-- The place that a commit writes to, and the bytes that it leaves there.
 use Rattle.std.specs.Prelude.{◌≡◌, ◌⊎◌, ℕ, ◌+◌, ◌*◌, ◌%◌, ◌<◌, List, [], ◌∷◌, ◌++◌, Bool, true, Option, None, is_some, Result, OnOk, IsErrOf, is_ok, if◌then◌else◌}
 use Rattle.std.specs.Int.{to_be_bytes, w32}
-use Rattle.bench_base.specs.declared.refusals.StoreFail.{StoreFail}
-use Rattle.bench_base.specs.declared.refusals.StoreFail.TheVariants.{Worn, Failed}
+use Rattle.bench_base.specs.declared.{refusals.StoreFail.StoreFail, refusals.StoreFail.TheVariants.Worn, refusals.StoreFail.TheVariants.Failed}
 use Rattle.nv_model.specs.declared.nv.Nv.{Ghosts}
 use Rattle.nv_model.specs.Bytes.{SameOutside, laid}
 use Rattle.nv_model.specs.Meters.{Meters, UsesExactly}
@@ -19,8 +18,8 @@ filled held = 165 ∷ (to_be_bytes w32 held.0 ++ held.1)
 abbrev pub closed : ℕ → ℕ → List ℕ → List ℕ
 closed size at old = if is_some (slot_at size at old) then laid old at (0 ∷ []) else old
 
--- An image of a commit that fills the slot at a place. Its gate alone is another; or the slot is closed, and anything
--- stands behind its gate; or all is written, and the gate may be anything.
+-- An image of a commit that fills the slot at a place. Only its gate may differ; or the slot is closed, and the bytes after
+-- its gate may be anything; or all is written, and the gate may be anything.
 abbrev pub IsFilling : ℕ → ℕ → Held → List ℕ → List ℕ → Type 0
 IsFilling size at held old image =
     SameOutside at 1 old image
@@ -52,7 +51,7 @@ fill size slots at held = record { size = size; slots = slots; at = at; held = h
 abbrev pub cell_fill : ℕ → ℕ → ℕ → Held → Fill
 cell_fill size slots k held = fill size slots (k * (slots * (5 + size))) held
 
--- what a storage tells: its content, its moment with the images since each, and its counts
+-- what a storage exposes: its content, its moment with the images since each, and its counts
 pub record Told : Type 1 where
   pub content : List ℕ
   pub times : Times
@@ -61,8 +60,9 @@ pub record Told : Type 1 where
 abbrev pub told : {N : Type 0} → Ghosts N → N → Told
 told g nv = record { content = g.content nv; times = g.times nv; meters = g.meters nv }
 
--- What a commit left, once it began to write: it fills the slot whose turn it is, and leaves all else. It was made where it
--- answered Ok; then the content has its bytes there, and of an armed fuse it used six calls, four where the slot was closed.
+-- What a commit left, once it began to write: it fills the next slot, and leaves the other bytes. It was made if it
+-- answered Ok. Then the content has its bytes there, and it used six calls of an armed fuse, or four if the slot was
+-- closed.
 pub record Fills (w : Fill) (before now : Told) (made : Bool) : Type 0 where
   pub place : ℕ
   pub next : IsNextSlot w.slots (slots_at w.size w.at before.content) place

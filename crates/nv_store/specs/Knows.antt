@@ -15,7 +15,8 @@ none_held count payload is = grind (arith, nat_tests)
 pub some_held : (count : ℕ) (payload : List ℕ) → 0 < count → one_held count payload ≡ Some (count, payload)
 some_held count payload lt = grind (arith, nat_tests)
 
-pub known_shown : (n : ℕ) (slots : ℕ → Option Held) (count place : ℕ) (gates : List Bool) (payload : List ℕ) → Known n slots count place gates payload → current n slots ≡ one_held count payload
+pub known_shown : (n : ℕ) (slots : ℕ → Option Held) (count place : ℕ) (gates : List Bool) (payload : List ℕ) → Known n slots count place gates payload
+    → current n slots ≡ one_held count payload
 known_shown n slots count place gates payload known = elim (cases_eq count 0) [
   | inl blank ↦ current_none n slots (known.blank blank) ∙ sym (none_held count payload blank)
   | inr filled ↦
@@ -23,7 +24,8 @@ known_shown n slots count place gates payload known = elim (cases_eq count 0) [
 ]
 
 -- of one cell, at the front of the storage
-pub one_shows : (size n : ℕ) (count place : ℕ) (gates : List Bool) (payload image : List ℕ) → Known n (slots_at size 0 image) count place gates payload → Shows size n 1 (λ k. one_held count payload) image
+pub one_shows : (size n : ℕ) (count place : ℕ) (gates : List Bool) (payload image : List ℕ)
+    → Known n (slots_at size 0 image) count place gates payload → Shows size n 1 (λ k. one_held count payload) image
 one_shows size n count place gates payload image known = record {
   each = λ k lt. ap (λ (at : ℕ). shown size n at image) (front k lt) ∙ known_shown n (slots_at size 0 image) count place gates payload known;
   clear = λ k lt. subst (λ (at : ℕ). IsClear n (slots_at size at image)) (sym (front k lt)) known.clear;
@@ -33,5 +35,7 @@ one_shows size n count place gates payload image known = record {
     front k lt = let is : k ≡ 0 = omega arith in ap (λ (j : ℕ). j * (n * (5 + size))) is ∙ grind arith
 
 -- of a value that hasn't failed
-pub holds_shows : {size n : ℕ} {head : Head} {payload : List ℕ} {now : Times} {content : List ℕ} → Holds size n head payload now content → OnlyShows size n 1 (λ k. one_held head.count payload) now content
-holds_shows {size} {n} {head} {payload} {now} {content} holds = record { only = holds.only; shows = one_shows size n head.count head.place head.gates payload content holds.known }
+pub holds_shows : {size n : ℕ} {head : Head} {payload : List ℕ} {now : Times} {content : List ℕ} → Holds size n head payload now content
+    → OnlyShows size n 1 (λ k. one_held head.count payload) now content
+holds_shows {size} {n} {head} {payload} {now} {content} holds = record
+    { only = holds.only; shows = one_shows size n head.count head.place head.gates payload content holds.known }

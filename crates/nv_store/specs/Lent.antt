@@ -12,9 +12,7 @@ use Rattle.nv_store.specs.Store.{one_held, OnlyShows, Between, Causes, Holds, co
 use Rattle.nv_store.specs.Fills.{Fills, fill, told}
 use Rattle.nv_store.specs.Mounts.{Mounts, MountCauses}
 use Rattle.nv_store.specs.Scans.{IsMixed}
-use Rattle.nv_store.specs.declared.head.Head.{Head}
-use Rattle.nv_store.specs.declared.causes.MountCause.{MountCause}
-use Rattle.nv_store.specs.declared.causes.MountCause.TheVariants.{Size, Mixed}
+use Rattle.nv_store.specs.declared.{head.Head.Head, causes.MountCause.MountCause, causes.MountCause.TheVariants.Size, causes.MountCause.TheVariants.Mixed}
 
 -- the parts, side by side
 pub record Parts (N : Type 0) : Type 0 where

@@ -7,8 +7,7 @@ use Rattle.nv_model.specs.Moments.{Times, Only, Elapses, Stays}
 use Rattle.nv_store.specs.Slot.{Held, slots_at}
 use Rattle.nv_store.specs.Scans.{IsMixed}
 use Rattle.nv_store.specs.Store.{OnlyShows}
-use Rattle.nv_store.specs.declared.causes.MountCause.{MountCause}
-use Rattle.nv_store.specs.declared.causes.MountCause.TheVariants.{Power, Fault, Size, Mixed}
+use Rattle.nv_store.specs.declared.{causes.MountCause.MountCause, causes.MountCause.TheVariants.Power, causes.MountCause.TheVariants.Fault, causes.MountCause.TheVariants.Size, causes.MountCause.TheVariants.Mixed}
 
 -- nothing is written: each image at every moment since the mount began is one of those at its beginning
 pub record Mounts (before now : Times) : Type 0 where

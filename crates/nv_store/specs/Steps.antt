@@ -11,7 +11,7 @@ pub record Puts {E : Type 0} (at : ℕ) (bytes old new : List ℕ) (before now :
   pub done : OnOk result (new ≡ laid old at bytes)
   pub time : Elapses before now
 
--- the content with this slot changed alone, to one of which P holds
+-- the content with only this slot changed, to one that meets P
 pub record Slotted (size at : ℕ) (P : Option Held → Type 0) (old new : List ℕ) : Type 0 where
   pub others : SameOutside at (5 + size) old new
   pub slot : P (slot_at size at new)

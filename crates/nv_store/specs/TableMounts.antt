@@ -8,10 +8,7 @@ use Rattle.nv_store.specs.Store.{OnlyShows}
 use Rattle.nv_store.specs.Mounts.{Mounts, MountCauses}
 use Rattle.nv_store.specs.RoomView.{cells_of}
 use Rattle.nv_store.specs.TableView.{storage_of, cell_count, held_by, has_failed}
-use Rattle.nv_store.specs.declared.causes.MountCause.TheVariants.{Size, Mixed}
-use Rattle.nv_store.specs.declared.room.Room.{Room}
-use Rattle.nv_store.specs.declared.table.MountFail.{MountFail}
-use Rattle.nv_store.specs.declared.table.Table.{Table}
+use Rattle.nv_store.specs.declared.{causes.MountCause.TheVariants.Size, causes.MountCause.TheVariants.Mixed, room.Room.Room, table.MountFail.MountFail, table.Table.Table}
 
 -- it is over the cells of this memory, and gives storage and memory back where it failed
 pub record MountsTable {N : Type 0} {L : ℕ} {g : Ghosts N} (nv : N) (room : Room L) (result : Result (Table N L g) (MountFail N L)) : Type 0 where

@@ -18,7 +18,7 @@ pub record Turn (Old New : List ℕ → Type 0) (before now : Times) (end : End)
   pub kept : end ≡ Kept → (c : List ℕ) → Image now c → Old c
   pub made : end ≡ Made → (c : List ℕ) → Image now c → New c
 
--- What a call costs, whatever the storage tells: of a fuse it uses at most so many calls.
+-- What a call costs, whether or not the storage exposes its contents: it uses at most so many calls of a fuse.
 pub record Spent (calls : ℕ) (before now : Meters) (end : End) : Type 0 where
   pub cuts : before.cuts ≤ now.cuts
   pub faults : before.faults ≤ now.faults

@@ -49,7 +49,7 @@ pub fn commit_at<N: Nv, const L: usize>(
     ensures time { N.tells → Elapses (N.times nv.old) (N.times nv.new) }
     ensures row { OnOk result ((head.new.count ≡ head.old.count + 1) × (kept.new ≡ payload.now)
         × (head.new.place < slots)) }
-    // It fills the slot whose turn it is.
+    // It fills the next slot.
     ensures fills { N.tells
         → Fills (fill L slots at (head.old.count + 1, payload.now)) (told N.Nv nv.old) (told N.Nv nv.new)
         (is_ok result) }

@@ -9,7 +9,7 @@ pub struct Head {
     pub count: u32,
     /// The current slot, where the cell is not blank.
     pub place: u32,
-    /// The slots whose gates are open.
+    /// The slots with an open gate.
     pub gates: [bool; 16],
 }
 

@@ -17,7 +17,7 @@ use crate::scan::find_cell;
 use bench_base::refusals::StoreFail;
 use nv_model::{Nv, NvFail};
 
-/// Commits a payload to the one cell of a storage, and brings head and kept payload up to it.
+/// Commits a payload to the one cell of a storage, and updates its head and its kept payload.
 ///
 /// The caller must not commit again once this answered Power or Fault.
 pub fn commit_lent<N: Nv, const L: usize>(

@@ -1,4 +1,4 @@
-//! The writes of a commit: closing a slot's gate, writing behind it, and opening it.
+//! The writes of a commit: closing a slot's gate, writing the bytes after it, and opening it.
 ghost use Rattle.std.specs.Prelude.{◌≡◌, ◌+◌, ◌≤◌, ◌<◌, ◌^◌, ◌++◌, List, [], ◌∷◌, ℕ, length, take, OnOk, Some, None, IsSome, false, is_some, if◌then◌else◌};
 ghost use Rattle.std.specs.Int.{to_be_bytes, w32};
 ghost use Rattle.nv_model.specs.Bytes.{SameOutside, range};
@@ -59,7 +59,7 @@ fn join<const L: usize>(buffer: &mut [u8], count: u32, payload: &[u8; L])
     buffer[4..4 + L].copy_from_slice(payload);
 }
 
-/// Writes the count and the payload behind a closed gate.
+/// Writes the count and the payload after a closed gate.
 pub fn write_payload<N: Nv, const L: usize>(
     nv: &mut N,
     at: u32,

@@ -7,7 +7,7 @@ use bench_base::refusals::StoreFail;
 
 /// Cells of L bytes in storage. Each holds a payload, or is blank.
 pub trait Store<const L: usize> {
-    /// Whether the storage tells its content and its images.
+    /// Whether the storage exposes its content and its images.
     ghost tells: { Type 0 };
 
     /// The number of slots of a cell.

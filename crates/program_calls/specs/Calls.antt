@@ -1,9 +1,7 @@
 -- What the words of the program call for.
 use Rattle.std.specs.Prelude.{List, [], ◌∷◌, ℕ, codes}
 use Rattle.script_text.specs.Programs.{program_words, AreInRange}
-use Rattle.program_calls.specs.declared.call.Call.{Call}
-use Rattle.program_calls.specs.declared.call.Call.TheVariants.{Bench, Claims, Departments, Statement, Manifest, Recompute}
-use Rattle.program_calls.specs.declared.call.Uses.{Uses}
+use Rattle.program_calls.specs.declared.{call.Call.Call, call.Call.TheVariants.Bench, call.Call.TheVariants.Claims, call.Call.TheVariants.Departments, call.Call.TheVariants.Statement, call.Call.TheVariants.Manifest, call.Call.TheVariants.Recompute, call.Uses.Uses}
 use Rattle.program_calls.specs.declared.call.Uses.TheVariants as uses
 
 -- the words of each call

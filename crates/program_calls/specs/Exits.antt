@@ -1,14 +1,10 @@
 -- How the program ends: its exit status, and its line on standard error.
 use Rattle.std.specs.Prelude.{ℕ, Option, Some, None, Result, Ok, Err}
 use Rattle.line_runs.specs.Codes.{code_of, side_code_of}
-use Rattle.line_runs.specs.declared.status.SideStatus.{SideStatus}
-use Rattle.line_runs.specs.declared.status.SideStatus.TheVariants.{Run, Stopped}
-use Rattle.line_runs.specs.declared.status.Status.TheVariants.{Done, Words, Script, ReadFault, WriteFault, Memory, TooLong}
-use Rattle.program_calls.specs.declared.exit.OpenFault.{OpenFault}
+use Rattle.line_runs.specs.declared.{status.SideStatus.SideStatus, status.SideStatus.TheVariants.Run, status.SideStatus.TheVariants.Stopped, status.Status.TheVariants.Done, status.Status.TheVariants.Words, status.Status.TheVariants.Script, status.Status.TheVariants.ReadFault, status.Status.TheVariants.WriteFault, status.Status.TheVariants.Memory, status.Status.TheVariants.TooLong}
+use Rattle.program_calls.specs.declared.{exit.OpenFault.OpenFault, exit.Fault.Fault, exit.Exit.Exit}
 use Rattle.program_calls.specs.declared.exit.OpenFault.TheVariants as unopened
-use Rattle.program_calls.specs.declared.exit.Fault.{Fault}
 use Rattle.program_calls.specs.declared.exit.Fault.TheVariants as says
-use Rattle.program_calls.specs.declared.exit.Exit.{Exit}
 
 abbrev ends_with : ℕ → Option Fault → Exit
 ends_with status line = record { status = status; line = line }

@@ -49,7 +49,7 @@ impl Call {
     }
 }
 
-// What one word calls for, if it is none of a bench alone.
+// What one word calls for, if it does not call for a bench alone.
 fn beside(word: &String) -> Option<Call>
     ensures found { IfSome result (λ c. IsCall c × (string_bytes word.now ∷ [] ≡ call_words c)) }
     ensures none { IfNone result (

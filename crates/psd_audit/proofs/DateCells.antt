@@ -1,13 +1,11 @@
--- The text of a day tells its year, month and day, and they tell the text.
-use Rattle.std.proofs.Common.{◌≡◌, ℕ, ℤ, pos, ◌≤ℤ◌, ◌+◌, ◌-◌, ◌*◌, ◌/◌, ◌%◌, ◌≤◌, List, [], ◌∷◌, ◌++◌, length, get_or, take, drop, Option, Some, None, Bool, true, false, refl, sym, ap, ◌∙◌, arith, subst, ◌↔◌, IsSome}
+-- The text of a day determines its year, month and day, and they determine the text.
+use Rattle.std.proofs.Common.{◌≡◌, ℕ, ℤ, pos, ◌≤ℤ◌, ◌+◌, ◌-◌, ◌*◌, ◌/◌, ◌%◌, ◌≤◌, List, [], ◌∷◌, ◌++◌, length, get_or, take, drop, Option, Some, None, Bool, true, false, refl, sym, ap, ◌∙◌, arith, subst, ◌↔◌, IsSome, FitsSigned, neg_ℤ, cond}
 use Rattle.std.specs.Prelude.{IfSome, IfNone}
 use Rattle.std.specs.Str.{all_ascii_digits}
 use Rattle.std.proofs.lemmas.Str.Parse.{tells_all_ascii_digits}
 use Rattle.jiff_core.specs.Calendar.{IsDate, days_from_civil, days_in_month}
 use Rattle.std.proofs.lemmas.Int.{ints, to_z-of_z}
 use Rattle.std.specs.Int.{w32, cast_signed, cast_unsigned}
-use Rattle.std.proofs.Common.{FitsSigned, neg_ℤ}
-use Rattle.std.proofs.Common.{cond}
 use Rattle.psd_audit.specs.Dates.{read_on, IsDateText, four_digits, two_digits}
 
 abbrev pub date_cells : ℕ → ℕ → ℕ → List ℕ
@@ -83,7 +81,7 @@ last_two c d y hc kc hd kd h e =
     let second : 48 + y % 10 ≡ d = omega (arith, hc, kc, hd, kd, e) in
     ap (λ x. x ∷ (48 + y % 10) ∷ []) first ∙ ap (λ x. c ∷ x ∷ []) second
 
--- a text whose cells are digits and dashes is the one of its numbers
+-- a text with digits and dashes in its cells is the one of its numbers
 abbrev Spelled : List ℕ → Type 0
 Spelled text = (y m d : ℕ) → get_or text 4 0 ≡ 45 → get_or text 7 0 ≡ 45
     → all_ascii_digits (take 4 text) ≡ true → all_ascii_digits (take 2 (drop 5 text)) ≡ true → all_ascii_digits (take 2 (drop 8 text)) ≡ true

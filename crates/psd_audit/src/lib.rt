@@ -19,7 +19,7 @@ const DAYS_OF_GRACE: i64 = 7;
 /// The most postage that is small, in mills.
 const SMALL_POSTAGE: u32 = 1_000;
 
-/// The last day on which a device franks after an audit or a reset on that day: 92 days later.
+/// The last day that a device franks after an audit or a reset on that day: 92 days later.
 pub fn deadline_after(day: DayNo) -> i32
     ensures { result ≡ day +ℤ pos 92 }
 {

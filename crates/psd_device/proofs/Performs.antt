@@ -1,4 +1,4 @@
--- That a device keeps what an act of it commits.
+-- A device keeps what an act of it commits.
 use Rattle.std.proofs.Common.{◌≡◌, Bool, Some, None, true, false, refl, if◌then◌else◌}
 use Rattle.std.specs.Prelude.{IfSome}
 use Rattle.bench_base.specs.declared.ledger.Commit.{Commit}

@@ -1,19 +1,14 @@
 -- What contracts see of a device and of its calls.
 use Rattle.std.specs.Prelude.{◌≡◌, ℕ, ℤ, List, Option, Result, None, IfSome}
-use Rattle.bench_base.specs.declared.ledger.Commit.{Commit}
-use Rattle.bench_base.specs.declared.refusals.DevRefusal.{DevRefusal}
-use Rattle.bench_base.specs.declared.refusals.Fail.{Fail}
-use Rattle.bench_base.specs.declared.sizes.TheConstants.{DEVICE_BYTES}
+use Rattle.bench_base.specs.declared.{ledger.Commit.Commit, refusals.DevRefusal.DevRefusal, refusals.Fail.Fail, sizes.TheConstants.DEVICE_BYTES, words.Kind.Kind}
 use Rattle.nv_model.specs.declared.nv.Nv.{Ghosts}
 use Rattle.nv_ring.specs.declared.wear.Wear.{Wear}
 use Rattle.node_acts.specs.Acts.{commit_in}
 use Rattle.node_storage.specs.Performed.{Performed}
-use Rattle.bench_base.specs.declared.words.Kind.{Kind}
 use Rattle.bench_base.specs.Rules.{todays_rules}
 use Rattle.psd_wire.specs.declared.message.DebitMsg.{DebitMsg}
 use Rattle.psd_state.specs.Acts.{DeviceAct, make_act, debit_act, ask_act, take_act}
-use Rattle.psd_state.specs.declared.acts.Franked.{Franked}
-use Rattle.psd_state.specs.declared.acts.Taken.{Taken}
+use Rattle.psd_state.specs.declared.{acts.Franked.Franked, acts.Taken.Taken}
 use Rattle.psd_state.specs.Seen.{Seen, counting}
 use Rattle.psd_device.specs.Shown.{ShowsSeen, OnlyShown, IsStorable, fill_of}
 use Rattle.psd_device.specs.Sound.{IsSound, IsCurrent}
@@ -69,7 +64,8 @@ take_of d bytes today = take_act todays_rules (number_of d) bytes today (seen_of
 
 -- == a call ==
 
--- What a call of this act did, answered and left. The record is one that can be kept, and so is the one after a commit.
+-- What a call of this act did, answered and left. The record is one that can be kept, and the record after a commit is one
+-- too.
 pub record Performs {N A : Type 0} {g : Ghosts N} (act : DeviceAct A) (old new : Device N g) (result : DeviceResult A) : Type 0 where
   pub performed : Performed g counting fill_of ShowsSeen (λ r. storage_in r.node) (λ r. seen_in r.node) (λ r. r.torn) act old.running new.running result
   pub next : torn_of old ≡ None → IfSome (commit_in counting (seen_of old) act) (λ x. IfSome x.1.state IsStorable)

@@ -18,19 +18,26 @@ use Rattle.psd_device.specs.NodeView.{storage_in, seen_in, is_on}
 use Rattle.psd_device.specs.declared.node.DeviceNode.{DeviceNode}
 
 -- the cell, by what it holds
-pub shown_as : (count : ℕ) (s : Option State) (held : Option Held) (image : List ℕ) → IsHeld count s held → Shows RECORD_BYTES SLOTS 1 (λ k. held) image → IsShown count s image
+pub shown_as : (count : ℕ) (s : Option State) (held : Option Held) (image : List ℕ) → IsHeld count s held
+    → Shows RECORD_BYTES SLOTS 1 (λ k. held) image → IsShown count s image
 shown_as count s held image is shows = record { held = subst (IsHeld count s) (sym (shows.each 0 (omega arith))) is; clear = shows.clear 0 (omega arith) }
 
 -- blank is a device with no commits
 pub blank_held : (count : ℕ) (payload : List ℕ) (o : Option State) → IsHeld count o (one_held count payload) → (count ≡ 0) ↔ (o ≡ None)
-blank_held count payload None is = let both : (count ≡ 0 → ◌≡◌ {A = Option State} None None) × (◌≡◌ {A = Option State} None None → count ≡ 0) = (λ none. refl, λ none. no_count) in both
+blank_held count payload None is = let both : (count ≡ 0 → ◌≡◌ {A = Option State} None None)
+    × (◌≡◌ {A = Option State} None None → count ≡ 0) = (λ none. refl, λ none. no_count) in both
   where
     no_count : count ≡ 0
     no_count = elim (cases_eq count 0) [
       | inl none ↦ none
       | inr some ↦ absurd (subst (IsHeld count None) (some_held count payload (omega arith)) is)
     ]
-blank_held count payload (Some s) is = let both : (count ≡ 0 → ◌≡◌ {A = Option State} (Some s) None) × (◌≡◌ {A = Option State} (Some s) None → count ≡ 0) = (λ none. absurd (differs (subst (IsHeld count (Some s)) (none_held count payload none) is)), λ none. cc) in both
+blank_held count payload (Some s) is = let both : (count ≡ 0 → ◌≡◌ {A = Option State} (Some s) None)
+    × (◌≡◌ {A = Option State} (Some s) None → count ≡ 0) = (
+      λ none. absurd
+          (differs (subst (IsHeld count (Some s)) (none_held count payload none) is)),
+      λ none. cc,
+    ) in both
   where
     differs : ◌≡◌ {A = Option State} (Some s) None → ⊥
     differs e = cc
@@ -47,7 +54,8 @@ current_at slot count payload content shows top held is =
     let shown : one_held count payload ≡ Some held = sym (shows.each 0 (omega arith)) ∙ is in
     elim (cases_eq count 0) [
       | inl none ↦ absurd (differs held (sym (none_held count payload none) ∙ shown))
-      | inr some ↦ subst (λ (h : Held). Top SLOTS (slots_at RECORD_BYTES 0 content) slot h) (same held (sym (some_held count payload (omega arith)) ∙ shown)) (top (omega arith))
+      | inr some ↦ subst (λ (h : Held). Top SLOTS (slots_at RECORD_BYTES 0 content) slot h)
+          (same held (sym (some_held count payload (omega arith)) ∙ shown)) (top (omega arith))
     ]
   where
     differs : (h : Held) → None ≡ Some h → ⊥
@@ -66,7 +74,8 @@ booted_at head payload content shows top = current_at (start_of head) head.count
     start some = rw (ne_eqb head.count 0 (λ (none : head.count ≡ 0). omega arith)) refl
 
 -- an image shows one number of commits and one record
-pub one_shown : (a b : ℕ) (o p : Option State) (image : List ℕ) → (a ≡ 0) ↔ (o ≡ None) → (b ≡ 0) ↔ (p ≡ None) → IsShown a o image → IsShown b p image → (a ≡ b) × (o ≡ p)
+pub one_shown : (a b : ℕ) (o p : Option State) (image : List ℕ) → (a ≡ 0) ↔ (o ≡ None) → (b ≡ 0) ↔ (p ≡ None) → IsShown a o image → IsShown b p image
+    → (a ≡ b) × (o ≡ p)
 one_shown a b o p image blank blank' shows shows' = by_held (cell_shown RECORD_BYTES SLOTS image 0) o p blank blank' shows.held shows'.held
   where
     by_held : (h : Option Held) (o p : Option State) → (a ≡ 0) ↔ (o ≡ None) → (b ≡ 0) ↔ (p ≡ None) → IsHeld a o h → IsHeld b p h → (a ≡ b) × (o ≡ p)

@@ -1,4 +1,4 @@
--- That a device meets the laws of a node.
+-- A device meets the laws of a node.
 use Rattle.std.proofs.Common.{◌≡◌, ⊎_elim, ℕ, ◌+◌, List, Option, false, ◌∙◌, ap, arith}
 use Rattle.bench_base.specs.declared.sizes.TheConstants.{RECORD_BYTES, SLOTS, DEVICE_BYTES}
 use Rattle.bench_base.proofs.Facts.{few_more}
@@ -38,7 +38,8 @@ keeps d s x sound kept number fresh = record {
 pub not_damaged : {N : Type 0} (g : Ghosts N) (d : ℕ) (nv : N) → ShowsOwn d (g.content nv) → g.size nv ≡ DEVICE_BYTES → IsDamaged g d nv → ⊥
 not_damaged g d nv own size damaged =
     ⊎_elim (λ other. other size)
-    (λ wrong. ⊎_elim (λ mixed. not_mixed SLOTS (slots_at RECORD_BYTES 0 (g.content nv)) mixed (shows_clear d (g.content nv) own)) (λ foreign. own_not_foreign d (g.content nv) own foreign) wrong.1)
+    (λ wrong. ⊎_elim (λ mixed. not_mixed SLOTS (slots_at RECORD_BYTES 0 (g.content nv)) mixed (shows_clear d (g.content nv) own))
+    (λ foreign. own_not_foreign d (g.content nv) own foreign) wrong.1)
     damaged
 
 pub intact : {N : Type 0} (g : Ghosts N) (d : ℕ) (s : Seen) (nv : N) → IsSound d s → IsShown s.count s.state (g.content nv) → g.size nv ≡ DEVICE_BYTES

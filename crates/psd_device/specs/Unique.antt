@@ -1,10 +1,8 @@
--- That a record can be kept, and that a payload reads as it, has one proof at most.
+-- There is at most one proof that a record can be kept, and at most one that a payload reads as it.
 use Rattle.std.proofs.Common.{◌≡◌, ◌⊎◌, inl, inr, ℕ, List, [], ◌∷◌, Option, Some, None, IfSome, ap, arith}
 use Rattle.std.proofs.Props.{props}
 use Rattle.bench_base.specs.Table.{Size, One, Two, Four, Five, Eight, IsNumber, Fit}
-use Rattle.bench_base.specs.declared.words.Kind.{Kind}
-use Rattle.bench_base.specs.declared.words.Kind.TheVariants.{Enrol, Reset, Audit, Refund, Withdraw}
-use Rattle.bench_base.specs.declared.words.Phase.{Phase}
+use Rattle.bench_base.specs.declared.{words.Kind.Kind, words.Kind.TheVariants.Enrol, words.Kind.TheVariants.Reset, words.Kind.TheVariants.Audit, words.Kind.TheVariants.Refund, words.Kind.TheVariants.Withdraw, words.Phase.Phase}
 use Rattle.indicium.specs.declared.Mark.{Mark}
 use Rattle.psd_wire.specs.declared.message.Request.{Request}
 use Rattle.registers.specs.Sums.{Sums}

@@ -1,9 +1,9 @@
 //! The calls of a device. Money is in mills, and a day counts from 1970-01-01.
 //!
 //! A call that commits answers `Store` with `Failed`, before every refusal, if and only if an earlier call of this value
-//! answered Power or Fault; after every refusal it answers Power or Fault where its commit failed, and Worn where the
-//! storage has 4,294,967,295 commits. A refusal, Worn, and an answer that needs no commit leave the device and its storage
-//! as they were. The others never answer `Store`.
+//! answered Power or Fault. After every refusal it answers Power or Fault if its commit failed, and Worn if the storage has
+//! 4,294,967,295 commits. A refusal, Worn, and an answer that needs no commit leave the device and its storage as they
+//! were. The other calls never answer `Store`.
 ghost use Rattle.std.specs.Prelude.{◌≡◌};
 ghost use Rattle.node_acts.specs.Results.{answer_of};
 ghost use Rattle.psd_state.specs.Acts.{resend_act, ack_act, status_act};
@@ -65,9 +65,13 @@ impl<N: Nv> Device<N> {
         self.perform(act)
     }
 
-    /// Takes a Reply or a Debit. The first refusal that holds: `Unread` of `read_message`; `Unread` with `Tag` for another
-    /// message; for a Debit those of `debit`; for a Reply `Blank`, `WrongDevice` with the Reply's device, `BadCode` exactly
-    /// where its code is not of this device's key, and then those of `DevRec::apply`.
+    /// Takes a Reply or a Debit. The first refusal that holds is answered:
+    ///
+    /// 1. `Unread` of `read_message`.
+    /// 2. `Unread` with `Tag` for another message.
+    /// 3. For a Debit those of `debit`.
+    /// 4. For a Reply `Blank`, `WrongDevice` with the Reply's device, `BadCode` if and only if its code is not of this
+    ///    device's key, and then those of `DevRec::apply`.
     pub fn take(&mut self, bytes: &[u8], day: DayNo) -> Result<Taken, DevFail>
         ensures { Performs (take_of self.old bytes.now day) self.old self.new result }
     {
@@ -94,7 +98,7 @@ impl<N: Nv> Device<N> {
         answer(acts::ack_act(self.running.node.record()))
     }
 
-    /// What the device shows of its record on that day. `Blank` where there is none.
+    /// What the device shows of its record on that day. `Blank` if there is no record.
     pub fn status(&self, day: DayNo) -> Result<DevStatus, DevFail>
         ensures { result ≡ answer_of (status_act day (seen_of self.now).state) }
     {

@@ -14,7 +14,7 @@ use node_storage::Running;
 use nv_model::{Fused, Nv};
 use psd_state::DeviceAct;
 
-/// A device over storage of 3,424 bytes: one cell of sixteen slots, whose payload is the device's record.
+/// A device over storage of 3,424 bytes: one cell of sixteen slots, with the device's record as payload.
 #[derive(Drop)]
 pub struct Device<N: Nv> {
     pub(crate) running: Running<DeviceNode<N>>,

@@ -19,8 +19,8 @@ use nv_ring::Wear;
 use nv_store::{Head, commit_lent};
 use psd_state::{DevRec, ReadyRecord, keep};
 
-/// A device over storage of 3,424 bytes: one cell of sixteen slots, whose payload is the device's record. While it is
-/// off, what it knew of its storage counts for nothing.
+/// A device over storage of 3,424 bytes: one cell of sixteen slots, with the device's record as payload. While it is off,
+/// what it knew of its storage counts for nothing.
 #[derive(Drop)]
 pub struct DeviceNode<N: Nv> {
     pub(crate) nv: N,

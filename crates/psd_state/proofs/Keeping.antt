@@ -1,31 +1,23 @@
--- For every list of commits whose record it is: the record afterwards is that of the list and the commit.
+-- If a record is that of a list of commits, the record afterwards is that of the list and the commit.
 use Rattle.std.proofs.Common.{◌≡◌, ℕ, pos, ◌+◌, ◌≤◌, ◌+ℤ◌, refl, rules, arith, Option, Some, None, Result, Ok, Err, Bool, true, false, cond, List, [], ◌∷◌, ap, sym, ◌∙◌, subst, eq-eqb, ◌==◌, if◌then◌else◌, ◌&&◌, inl, inr}
 use Rattle.std.proofs.lemmas.Int.{ints}
 use Rattle.std.proofs.lemmas.Option.{none-some, same_Some}
-use Rattle.bench_base.specs.declared.words.Kind.{Kind}
-use Rattle.bench_base.specs.declared.words.Kind.TheVariants.{Enrol, Reset, Audit, Refund, Withdraw}
-use Rattle.bench_base.specs.declared.words.Verdict.{Verdict}
-use Rattle.bench_base.specs.declared.words.Phase.TheVariants.{Manufactured}
-use Rattle.bench_base.specs.declared.refusals.DevRefusal.{DevRefusal}
+use Rattle.bench_base.specs.declared.{words.Kind.Kind, words.Kind.TheVariants.Enrol, words.Kind.TheVariants.Reset, words.Kind.TheVariants.Audit, words.Kind.TheVariants.Refund, words.Kind.TheVariants.Withdraw, words.Verdict.Verdict, words.Phase.TheVariants.Manufactured, refusals.DevRefusal.DevRefusal, ledger.Commit.Commit, ledger.Commit.TheVariants.Made, ledger.Commit.TheVariants.Asked, ledger.Commit.TheVariants.Applied, ledger.Commit.TheVariants.Debited, ledger.Commit.TheVariants.Registered}
 use Rattle.bench_base.specs.declared.refusals.DevRefusal.TheVariants as no
-use Rattle.bench_base.specs.declared.ledger.Commit.{Commit}
-use Rattle.bench_base.specs.declared.ledger.Commit.TheVariants.{Made, Asked, Applied, Debited, Registered}
 use Rattle.bench_base.specs.Kinds.{same_kind, empties, is_granted, is_dated, is_allowed}
 use Rattle.bench_base.proofs.Rows.{passes}
 use Rattle.bench_base.proofs.Facts.{not_none, some_by, either, ok_same, err_ok}
 use Rattle.indicium.specs.declared.Mark.{Mark}
 use Rattle.indicium.specs.Marks as marks
 use Rattle.indicium.proofs.Readings.{let_through}
-use Rattle.psd_wire.specs.declared.message.Request.{Request}
-use Rattle.psd_wire.specs.declared.message.DebitMsg.{DebitMsg}
+use Rattle.psd_wire.specs.declared.{message.Request.Request, message.DebitMsg.DebitMsg}
 use Rattle.psd_wire.specs.declared.message.Message.TheVariants as m
 use Rattle.psd_wire.specs.Grammar as grammar
 use Rattle.ledger_terms.specs.Requests.{request_in, request_of, in_note, note_of}
 use Rattle.ledger_terms.specs.Sums.{takes, loaded, refunded, ascending, descending, whole_descending}
 use Rattle.ledger_terms.specs.Devices.{key_of, number, pending, unless_applied, waiting, applied_kind, phase_of, phase}
 use Rattle.registers.specs.Sums.{Sums}
-use Rattle.psd_state.specs.declared.debiting.Debited.{Debited as Answer}
-use Rattle.psd_state.specs.declared.debiting.Debited.TheVariants.{New, Again}
+use Rattle.psd_state.specs.declared.{debiting.Debited.Debited as Answer, debiting.Debited.TheVariants.New, debiting.Debited.TheVariants.Again}
 use Rattle.psd_state.specs.State.{State, Holds, PendingOk, IsAmount}
 use Rattle.psd_state.specs.Answers.{unless, waiting_kind, frozen_kind, made_state, ask_rows, request_made, after_ask, note_for, piece_rows, debit_rows, after_debit, repeated, unless_again, again, apply_answer, apply_rows, after_apply, resend_answer}
 use Rattle.psd_state.specs.Records.{state_of, IsOutstanding, IsRecordOf, asks, InOrder}

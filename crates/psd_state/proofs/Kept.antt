@@ -2,19 +2,16 @@
 use Rattle.std.proofs.Common.{◌≡◌, ℕ, ℤ, ◌+◌, ◌^◌, ◌<◌, ◌≤◌, refl, arith, Option, Some, None, Bool, true, false, FitsSigned, Fits as Fits32, true≢false, lit<, if◌then◌else◌, Ok, Err, nat_lt, ltb-false, ap, ap₂, sym, ◌∙◌, List, ◌++◌, ◌==◌, ◌&&◌, eq-eqb}
 use Rattle.std.specs.Int.{w32, cast_unsigned}
 use Rattle.std.proofs.Math.Facts.{Fits-of_z}
-use Rattle.bench_base.specs.declared.words.Kind.{Kind}
-use Rattle.bench_base.specs.declared.words.Kind.TheVariants.{Enrol, Reset, Audit, Refund, Withdraw}
-use Rattle.bench_base.specs.declared.words.Phase.{Phase}
+use Rattle.bench_base.specs.declared.{words.Kind.Kind, words.Kind.TheVariants.Enrol, words.Kind.TheVariants.Reset, words.Kind.TheVariants.Audit, words.Kind.TheVariants.Refund, words.Kind.TheVariants.Withdraw, words.Phase.Phase}
 use Rattle.indicium.specs.declared.Mark.{Mark}
 use Rattle.indicium.specs.Marks as marks
-use Rattle.psd_wire.specs.declared.message.Request.{Request}
+use Rattle.psd_wire.specs.declared.{message.Request.Request, message.DebitMsg.DebitMsg}
 use Rattle.registers.specs.Sums.{Sums, Sound, debited, debit_answer}
 use Rattle.psd_state.specs.State.{State, Holds, IsAmount, PendingOk, MarkOk, kept_code}
 use Rattle.bench_base.specs.Kinds.{same_kind, empties}
 use Rattle.hmac_core.specs.Hmac.{hmac}
 use Rattle.bench_base.specs.declared.refusals.DevRefusal.TheVariants as no
 use Rattle.bench_base.proofs.Facts.{ok_err, some_none}
-use Rattle.psd_wire.specs.declared.message.DebitMsg.{DebitMsg}
 use Rattle.psd_state.specs.declared.debiting.Debited.TheVariants.{Again}
 use Rattle.psd_state.specs.Answers.{frozen_kind, again}
 

@@ -2,11 +2,7 @@
 use Rattle.std.proofs.Common.{◌≡◌, ℕ, pos, ◌+◌, ◌<◌, ◌+ℤ◌, max, refl, arith, Option, Some, None, IsSome, Bool, true, false, cond, List, [], ◌∷◌, ap, sym, ◌∙◌, subst, eq-eqb, ne_eqb, ◌==◌, if◌then◌else◌, ◌&&◌, ◌||◌, true≢false, ◌⊎◌, inl, inr}
 use Rattle.std.proofs.lemmas.Bool.{false_from_ne_true}
 use Rattle.std.proofs.lemmas.Option.{same_Some, none-some}
-use Rattle.bench_base.specs.declared.words.Kind.{Kind}
-use Rattle.bench_base.specs.declared.words.Kind.TheVariants.{Enrol}
-use Rattle.bench_base.specs.declared.words.Verdict.{Verdict}
-use Rattle.bench_base.specs.declared.ledger.Commit.{Commit}
-use Rattle.bench_base.specs.declared.ledger.Commit.TheVariants.{Asked, Applied, Registered, Ruled}
+use Rattle.bench_base.specs.declared.{words.Kind.Kind, words.Kind.TheVariants.Enrol, words.Verdict.Verdict, ledger.Commit.Commit, ledger.Commit.TheVariants.Asked, ledger.Commit.TheVariants.Applied, ledger.Commit.TheVariants.Registered, ledger.Commit.TheVariants.Ruled}
 use Rattle.bench_base.specs.Rows.{first_of}
 use Rattle.bench_base.specs.Kinds.{is_granted, is_dated, same_kind}
 use Rattle.bench_base.proofs.Facts.{not_none, either}

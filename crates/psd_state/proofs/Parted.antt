@@ -1,5 +1,5 @@
 -- A record's bytes fall into its parts, and the parts make its bytes, in each version.
-use Rattle.std.proofs.Common.{◌≡◌, ℕ, ℤ, [], ◌∷◌, ◌+◌, ◌-◌, ◌^◌, ◌<◌, ◌≤◌, ◌==◌, if◌then◌else◌, Bool, true, false, replicate, List, ◌++◌, length, take, drop, get_or, sym, ap, ap₂, ◌∙◌, refl, arith, subst, Option, Some, None, length-append, append_assoc, FitsSigned, Fits as Fits32, true≢false}
+use Rattle.std.proofs.Common.{◌≡◌, ℕ, ℤ, [], ◌∷◌, ◌+◌, ◌-◌, ◌^◌, ◌<◌, ◌≤◌, ◌==◌, if◌then◌else◌, Bool, true, false, replicate, List, ◌++◌, length, take, drop, get_or, sym, ap, ap₂, ◌∙◌, refl, arith, subst, Option, Some, None, length-append, append_assoc, FitsSigned, Fits as Fits32, true≢false, inl, inr}
 use Rattle.std.specs.Int.{w32, cast_signed, cast_unsigned}
 use Rattle.std.proofs.lemmas.Int.{of_z-to_z, to_z-of_z}
 use Rattle.std.proofs.lemmas.List.{take_at, drop_at, drop-drop, length-replicate}
@@ -10,18 +10,15 @@ use Rattle.indicium.specs.declared.Mark.{Mark}
 use Rattle.indicium.specs.Marks as marks
 use Rattle.indicium.proofs.Readings.{length_spell, read_spell}
 use Rattle.psd_wire.specs.Grammar.{body}
-use Rattle.psd_wire.proofs.Readings.{length_request, one_spelling, request_room, request_room_le, length_body_of, one_body, request_version}
+use Rattle.psd_wire.proofs.Readings.{length_request, one_spelling, request_room, request_room_le, length_body_of, one_body, request_version, byte_of}
 use Rattle.registers.specs.Sums.{Sums}
-use Rattle.bench_base.specs.declared.words.Phase.{Phase}
-use Rattle.bench_base.specs.declared.words.Phase.TheVariants.{Blank, Manufactured, Authorised, InService, Locked, Withdrawn}
+use Rattle.bench_base.specs.declared.{words.Phase.Phase, words.Phase.TheVariants.Blank, words.Phase.TheVariants.Manufactured, words.Phase.TheVariants.Authorised, words.Phase.TheVariants.InService, words.Phase.TheVariants.Locked, words.Phase.TheVariants.Withdrawn}
 use Rattle.bench_base.proofs.Facts.{read_sfits, ok_same, behind}
 use Rattle.psd_wire.specs.declared.message.Request.{Request}
 use Rattle.psd_wire.specs.declared.message.Message.TheVariants as m
 use Rattle.psd_wire.specs.Grammar as grammar
 use Rattle.std.specs.Prelude.{◌⊎◌, IfSome}
-use Rattle.std.proofs.Common.{inl, inr}
 use Rattle.std.proofs.lemmas.Bool.{eqb-true}
-use Rattle.psd_wire.proofs.Readings.{byte_of}
 use Rattle.psd_state.specs.State.{State, Holds, PendingOk, MarkOk, is_stored}
 use Rattle.psd_state.specs.declared.parts.Fields.{Fields}
 use Rattle.psd_state.specs.Payload.{phase_code, phase_byte, flag_of, head_table, head, middle_table, middle, filled, pending_room, pending_part, mark_part, end_part, head_part, middle_part, spelled, bytes_of, RangesIn, Ranges, IsOld, ReadsAs, fields_from, fields_at, fields_of, pending_place, mark_place, Parts, PendingWhole, MarkWhole, IsKeptAt}
@@ -234,7 +231,7 @@ same_mark key n (Some q) (Some r) v w f g e =
 abbrev fields : ℕ → ℕ → List ℕ → ℕ → ℕ → ℕ → ℕ → ℕ → ℤ → ℤ → ℕ → ℕ → ℕ → Fields
 fields d p key x y z n i t u c o f = record { device = d; phase = p; key = key; ascending = x; descending = y; refunded = z; pieces = n; number = i; deadline = t; last_day = u; customer = c; origin = o; pending = f }
 
--- the numbers of a record fit where those that were written do, whatever stands for the days
+-- the numbers of a record fit if those that were written do, whatever represents the days
 pub fits_of : (s : State) (flag x y : ℕ) → Fit head_table (head 2 s) → length s.key ≡ 32 → flag ≡ flag_of s.pending
     → Fit (middle_table 2) (s.registers.ascending ∷ s.registers.descending ∷ s.registers.refunded ∷ s.registers.pieces ∷ s.number ∷ x ∷ y ∷ s.customer ∷ s.origin ∷ flag ∷ [])
     → FitsSigned w32 s.deadline → FitsSigned w32 s.last_day → Ranges s
@@ -357,7 +354,7 @@ spells_old s h r old = record { holds = h; fits = old_fits s h r old; old = λ _
 pub spells_new : (s : State) → Holds s → Ranges s → Spells 2 s
 spells_new s h r = record { holds = h; fits = r; old = λ e. absurd (omega (arith, e)) }
 
--- the byte of the phase tells the version
+-- the byte of the phase shows the version
 pub byte_old : (s : State) (bytes : List ℕ) → Spells 1 s → spelled 1 s ≡ bytes → get_or bytes 4 0 < 16
 byte_old s bytes g e =
     let code = stored_code s.phase g.holds.phase in
@@ -366,7 +363,7 @@ byte_old s bytes g e =
 pub byte_new : (s : State) (bytes : List ℕ) → Spells 2 s → spelled 2 s ≡ bytes → 16 ≤ get_or bytes 4 0
 byte_new s bytes g e = omega (arith, byte_of_phase 2 s bytes (parts_of 2 s bytes g e))
 
--- a low byte stands in no payload of version 2, and a high one in none of version 1
+-- the byte of the phase is not low in a payload of version 2, and not high in one of version 1
 pub not_second : (payload : List ℕ) (s : State) → get_or payload 4 0 < 16 → ReadsAs payload s → (IsOld s → spelled 1 s ≡ payload → ⊥) → ⊥
 not_second payload s low r none = go r.reads
   where

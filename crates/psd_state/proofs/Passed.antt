@@ -4,17 +4,12 @@ use Rattle.std.specs.Prelude.{◌==◌, ◌&&◌, ◌<ℤ◌, nat_lt}
 use lib.Signed.{lt_z}
 use Rattle.std.proofs.lemmas.Bool.{eqb-true, eqb-false, ltb-false, leb-false, not-false, or_parts}
 use Rattle.std.proofs.lemmas.Int.{ints}
-use Rattle.bench_base.specs.declared.words.Kind.{Kind}
-use Rattle.bench_base.specs.declared.words.Kind.TheVariants.{Reset}
-use Rattle.bench_base.specs.declared.words.Phase.{Phase}
-use Rattle.bench_base.specs.declared.words.Phase.TheVariants.{InService}
+use Rattle.bench_base.specs.declared.{words.Kind.Kind, words.Kind.TheVariants.Reset, words.Phase.Phase, words.Phase.TheVariants.InService}
 use Rattle.bench_base.specs.Rules.{Rules}
 use Rattle.bench_base.specs.Kinds.{same_kind, is_allowed}
 use Rattle.bench_base.proofs.Facts.{and_false}
 use Rattle.bench_base.proofs.Rows.{AllFalse}
-use Rattle.psd_wire.specs.declared.message.Request.{Request}
-use Rattle.psd_wire.specs.declared.message.ReplyMsg.{ReplyMsg}
-use Rattle.psd_wire.specs.declared.message.DebitMsg.{DebitMsg}
+use Rattle.psd_wire.specs.declared.{message.Request.Request, message.ReplyMsg.ReplyMsg, message.DebitMsg.DebitMsg}
 use Rattle.psd_wire.specs.Codes.{has_code}
 use Rattle.registers.specs.Sums.{total}
 use Rattle.psd_state.specs.State.{State}

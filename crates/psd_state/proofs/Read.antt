@@ -82,7 +82,7 @@ parts_made v f bytes s o k stand same pending mark p x z =
       end = z;
     }
 
--- nothing is left behind the mark in version 1
+-- nothing is left after the mark in version 1
 pub nothing_behind : (bytes : List ℕ) → length bytes ≡ 209 → drop 209 bytes ≡ []
 nothing_behind bytes l = drop_all 209 bytes (omega (arith, l))
 

@@ -1,18 +1,10 @@
 -- What one commit does to what follows from the commits for a device.
 use Rattle.std.proofs.Common.{◌≡◌, ℕ, ℤ, pos, ◌+◌, ◌-◌, ◌≤◌, ◌+ℤ◌, refl, arith, Option, Some, None, Bool, true, false, cond, List, [], ◌∷◌, ap, ap₂, sym, ◌∙◌, eq-eqb, ◌==◌, if◌then◌else◌, ◌&&◌, ◌||◌, true≢false, ◌⊎◌, inl, inr}
-use Rattle.bench_base.specs.declared.words.Kind.{Kind}
-use Rattle.bench_base.specs.declared.words.Kind.TheVariants.{Enrol, Reset, Audit, Refund, Withdraw}
-use Rattle.bench_base.specs.declared.words.Verdict.{Verdict}
-use Rattle.bench_base.specs.declared.words.Node.TheVariants.{Device}
-use Rattle.bench_base.specs.declared.words.Phase.TheVariants.{Authorised}
-use Rattle.bench_base.specs.declared.ledger.Commit.{Commit}
-use Rattle.bench_base.specs.declared.ledger.Commit.TheVariants.{Made, Asked, Applied, Debited, Registered, Opened, Deposited, Flagged, Ruled, Settled, Ordered, Held, Began, Closed, Trusted, Accepted}
+use Rattle.bench_base.specs.declared.{words.Kind.Kind, words.Kind.TheVariants.Enrol, words.Kind.TheVariants.Reset, words.Kind.TheVariants.Audit, words.Kind.TheVariants.Refund, words.Kind.TheVariants.Withdraw, words.Verdict.Verdict, words.Node.TheVariants.Device, words.Phase.TheVariants.Authorised, ledger.Commit.Commit, ledger.Commit.TheVariants.Made, ledger.Commit.TheVariants.Asked, ledger.Commit.TheVariants.Applied, ledger.Commit.TheVariants.Debited, ledger.Commit.TheVariants.Registered, ledger.Commit.TheVariants.Opened, ledger.Commit.TheVariants.Deposited, ledger.Commit.TheVariants.Flagged, ledger.Commit.TheVariants.Ruled, ledger.Commit.TheVariants.Settled, ledger.Commit.TheVariants.Ordered, ledger.Commit.TheVariants.Held, ledger.Commit.TheVariants.Began, ledger.Commit.TheVariants.Closed, ledger.Commit.TheVariants.Trusted, ledger.Commit.TheVariants.Accepted}
 use Rattle.bench_base.specs.Nodes.{same_node, node_of}
 use Rattle.bench_base.specs.Kinds.{same_kind, empties, is_granted, is_dated, is_allowed}
 use Rattle.bench_base.specs.Rules.{Rules}
-use Rattle.psd_wire.specs.declared.message.Request.{Request}
-use Rattle.psd_wire.specs.declared.message.ReplyMsg.{ReplyMsg}
-use Rattle.psd_wire.specs.declared.message.DebitMsg.{DebitMsg}
+use Rattle.psd_wire.specs.declared.{message.Request.Request, message.ReplyMsg.ReplyMsg, message.DebitMsg.DebitMsg}
 use Rattle.psd_wire.specs.declared.message.Message.TheVariants as m
 use Rattle.psd_wire.specs.Grammar as grammar
 use Rattle.ledger_terms.specs.Requests.{request_or_none, request_in, note_of, in_note, request_of}
@@ -163,7 +155,7 @@ other_state d key (Closed j) C h o = refl
 other_state d key (Trusted e k) C h o = refl
 other_state d key (Accepted e p n) C h o = refl
 
--- and what else of the commits a record rests on
+-- and the other parts of the commits that a record rests on
 pub other_rest : (d : ℕ) (c : Commit) (C : List Commit) → same_node (node_of c) (Device d) ≡ false
     → (key_of d (c ∷ C) ≡ key_of d C) × (pending d (c ∷ C) ≡ pending d C) × (whole_descending d (c ∷ C) ≡ whole_descending d C)
 other_rest d (Made e k) C h = (rw h refl, refl, refl)

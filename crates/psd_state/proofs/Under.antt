@@ -3,12 +3,9 @@ use Rattle.std.proofs.Common.{◌≡◌, ℕ, ◌-◌, ◌≤◌, ◌==◌, if�
 use Rattle.indicium.specs.declared.Mark.{Mark}
 use Rattle.indicium.specs.Marks as marks
 use Rattle.indicium.proofs.Readings as mark_laws
-use Rattle.psd_wire.specs.declared.message.Request.{Request}
-use Rattle.psd_wire.specs.declared.message.Message.{Message}
+use Rattle.psd_wire.specs.declared.{message.Request.Request, message.Message.Message, message.ReplyMsg.ReplyMsg, message.DoneMsg.DoneMsg}
 use Rattle.psd_wire.specs.declared.message.Message.TheVariants as m
 use Rattle.psd_wire.specs.Grammar as grammar
-use Rattle.psd_wire.specs.declared.message.ReplyMsg.{ReplyMsg}
-use Rattle.psd_wire.specs.declared.message.DoneMsg.{DoneMsg}
 use Rattle.bench_base.specs.Table.{Four, Eight, room}
 use Rattle.bench_base.specs.declared.refusals.MarkFault.{MarkFault}
 use Rattle.bench_base.proofs.Facts.{ok_same, ok_err}
@@ -140,7 +137,7 @@ unfolding mark_part
 not_some_mark key bytes p z n None w f e = z f
 not_some_mark key bytes p z n (Some k) w f e = n k w e
 
--- == the zeros behind a request ==
+-- == the zeros after a request ==
 
 rest_zeros : (bytes : List ℕ) (n : ℕ) → length bytes ≡ 55 → length (take (length bytes - n) (drop n bytes)) ≡ 55 - n
 rest_zeros bytes n l = ap length (take_rest bytes n) ∙ length-drop n bytes ∙ ap (λ k. k - n) l

@@ -1,29 +1,19 @@
 -- What each call of a device does, by its record. Amounts are in mills, days since 1970-01-01.
 use Rattle.std.specs.Prelude.{ℕ, ℤ, ◌+◌, Bool, true, false, not, List, [], ◌∷◌, Option, Some, None, Result, Ok, Err, ◌==◌}
-use Rattle.bench_base.specs.declared.words.Kind.{Kind}
-use Rattle.bench_base.specs.declared.refusals.Unread.{Unread}
+use Rattle.bench_base.specs.declared.{words.Kind.Kind, refusals.Unread.Unread, refusals.DevRefusal.DevRefusal, ledger.Commit.Commit, events.DevView.DevView}
 use Rattle.bench_base.specs.declared.refusals.Unread.TheVariants as unread
-use Rattle.bench_base.specs.declared.refusals.DevRefusal.{DevRefusal}
 use Rattle.bench_base.specs.declared.refusals.DevRefusal.TheVariants as no
-use Rattle.bench_base.specs.declared.ledger.Commit.{Commit}
 use Rattle.bench_base.specs.declared.ledger.Commit.TheVariants as c
-use Rattle.bench_base.specs.declared.events.DevView.{DevView}
 use Rattle.bench_base.specs.Rules.{Rules}
-use Rattle.node_acts.specs.declared.act.Act.{Act}
-use Rattle.node_acts.specs.declared.act.Act.TheVariants.{Refuse, Tell, Commits}
+use Rattle.node_acts.specs.declared.{act.Act.Act, act.Act.TheVariants.Refuse, act.Act.TheVariants.Tell, act.Act.TheVariants.Commits}
 use Rattle.bench_base.specs.Rows.{first_holding}
-use Rattle.psd_wire.specs.declared.message.ReplyMsg.{ReplyMsg}
-use Rattle.psd_wire.specs.declared.message.DebitMsg.{DebitMsg}
-use Rattle.psd_wire.specs.declared.message.Message.{Message}
+use Rattle.psd_wire.specs.declared.{message.ReplyMsg.ReplyMsg, message.DebitMsg.DebitMsg, message.Message.Message}
 use Rattle.psd_wire.specs.declared.message.Message.TheVariants as m
 use Rattle.psd_wire.specs.Codes.{has_code}
 use Rattle.psd_wire.specs.Grammar.{read}
 use Rattle.psd_state.specs.State.{State}
 use Rattle.psd_state.specs.Answers.{made_state, debit_answer, ask_answer, apply_answer, resend_answer, done_answer, status_of}
-use Rattle.psd_state.specs.declared.debiting.Debited.{Debited}
-use Rattle.psd_state.specs.declared.debiting.Debited.TheVariants.{New, Again}
-use Rattle.psd_state.specs.declared.acts.Franked.{Franked}
-use Rattle.psd_state.specs.declared.acts.Taken.{Taken}
+use Rattle.psd_state.specs.declared.{debiting.Debited.Debited, debiting.Debited.TheVariants.New, debiting.Debited.TheVariants.Again, acts.Franked.Franked, acts.Taken.Taken}
 use Rattle.psd_state.specs.declared.acts.Taken.TheVariants as taken
 
 -- what a call of a device does

@@ -1,14 +1,10 @@
--- What one commit does to the record of a device, and how records are told apart. The lists of commits have the newest first.
+-- What one commit does to the record of a device, and how records are distinguished. The lists of commits have the newest
+-- first.
 use Rattle.std.specs.Prelude.{◌≡◌, ℕ, ◌+◌, ℤ, false, List, ◌∷◌, Some, None, Ok}
-use Rattle.bench_base.specs.declared.words.Kind.{Kind}
-use Rattle.bench_base.specs.declared.words.Node.TheVariants.{Device}
-use Rattle.bench_base.specs.declared.ledger.Commit.{Commit}
-use Rattle.bench_base.specs.declared.ledger.Commit.TheVariants.{Made, Asked, Applied, Debited}
+use Rattle.bench_base.specs.declared.{words.Kind.Kind, words.Node.TheVariants.Device, ledger.Commit.Commit, ledger.Commit.TheVariants.Made, ledger.Commit.TheVariants.Asked, ledger.Commit.TheVariants.Applied, ledger.Commit.TheVariants.Debited}
 use Rattle.bench_base.specs.Nodes.{same_node, node_of}
 use Rattle.bench_base.specs.Rules.{Rules}
-use Rattle.psd_wire.specs.declared.message.Request.{Request}
-use Rattle.psd_wire.specs.declared.message.ReplyMsg.{ReplyMsg}
-use Rattle.psd_wire.specs.declared.message.DebitMsg.{DebitMsg}
+use Rattle.psd_wire.specs.declared.{message.Request.Request, message.ReplyMsg.ReplyMsg, message.DebitMsg.DebitMsg}
 use Rattle.ledger_terms.specs.Devices.{key_of, pending}
 use Rattle.psd_state.specs.State.{State, Holds}
 use Rattle.psd_state.specs.Answers.{made_state, ask_answer, debit_answer, apply_answer, resend_answer}

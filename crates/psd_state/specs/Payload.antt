@@ -2,12 +2,10 @@
 use Rattle.std.specs.Prelude.{◌≡◌, ℕ, ℤ, ◌+◌, ◌-◌, ◌<◌, ◌≤◌, ◌⊎◌, List, [], ◌∷◌, ◌++◌, Option, Some, None, IfSome, ◌==◌, if◌then◌else◌, length, take, drop, get_or, replicate, FitsSigned}
 use Rattle.std.specs.Int.{w32, cast_unsigned, cast_signed}
 use Rattle.bench_base.specs.Table.{Size, One, Four, room, row, values, Fit}
-use Rattle.bench_base.specs.declared.words.Phase.{Phase}
-use Rattle.bench_base.specs.declared.words.Phase.TheVariants.{Blank, Manufactured, Authorised, InService, Locked, Withdrawn}
+use Rattle.bench_base.specs.declared.{words.Phase.Phase, words.Phase.TheVariants.Blank, words.Phase.TheVariants.Manufactured, words.Phase.TheVariants.Authorised, words.Phase.TheVariants.InService, words.Phase.TheVariants.Locked, words.Phase.TheVariants.Withdrawn}
 use Rattle.indicium.specs.declared.Mark.{Mark}
 use Rattle.indicium.specs.Marks as marks
-use Rattle.psd_wire.specs.declared.message.Request.{Request}
-use Rattle.psd_wire.specs.declared.message.Message.{Message}
+use Rattle.psd_wire.specs.declared.{message.Request.Request, message.Message.Message}
 use Rattle.psd_wire.specs.declared.message.Message.TheVariants as m
 use Rattle.psd_wire.specs.Grammar as grammar
 use Rattle.psd_wire.specs.Grammar.{sum_size}
@@ -24,7 +22,7 @@ phase_code Withdrawn = 4
 phase_code Blank = 0
 phase_code Locked = 0
 
--- in version 2 it is 16 more, so this byte tells the version
+-- in version 2 it is 16 more, so this byte shows the version
 abbrev pub phase_byte : ℕ → Phase → ℕ
 phase_byte version p = if version == 1 then phase_code p else phase_code p + 16
 

@@ -1,8 +1,6 @@
 -- The record of a device after a list of commits, the newest first, and the order of its commits.
 use Rattle.std.specs.Prelude.{◌≡◌, ℕ, pos, ◌+◌, ◌<◌, List, [], ◌∷◌, Option, Some, None, IsSome, ◌==◌, if◌then◌else◌}
-use Rattle.bench_base.specs.declared.words.Verdict.{Verdict}
-use Rattle.bench_base.specs.declared.ledger.Commit.{Commit}
-use Rattle.bench_base.specs.declared.ledger.Commit.TheVariants.{Made, Asked, Applied, Debited, Registered, Ruled}
+use Rattle.bench_base.specs.declared.{words.Verdict.Verdict, ledger.Commit.Commit, ledger.Commit.TheVariants.Made, ledger.Commit.TheVariants.Asked, ledger.Commit.TheVariants.Applied, ledger.Commit.TheVariants.Debited, ledger.Commit.TheVariants.Registered, ledger.Commit.TheVariants.Ruled}
 use Rattle.psd_wire.specs.declared.message.Request.{Request}
 use Rattle.psd_wire.specs.declared.message.Message.TheVariants as m
 use Rattle.psd_wire.specs.Grammar.{spell}
@@ -58,10 +56,10 @@ pub record IsRuled (d n : ℕ) (v : Verdict) (C : List Commit) : Type 0 where
   pub ruling : ruling_of d n C ≡ Some (v, note)
   pub request : note_of d n C ≡ Some note
 
--- the commit may come after these, as far as the order of one device goes, on its own side and on the centre's:
--- Made and Registered come once and before the others of their side; the k-th Asked has number k; an Applied has the number
--- of the last Asked, comes once for it, and after the Ruled of that number, which has the Request that was asked, with its verdict;
--- a Ruled has a greater number than those before it, and the verdict that follows from the commits before it
+-- The commit may come after these, as far as the order of one device goes, on its own side and on the centre's. Made and
+-- Registered come once, and before the others of their side. The k-th Asked has number k. An Applied has the number of the
+-- last Asked, and comes once for it. It comes after the Ruled of that number, which has the Request that was asked, with
+-- its verdict. A Ruled has a greater number than those before it, and the verdict that follows from the commits before it.
 abbrev pub Follows : ℕ → Commit → List Commit → Type 0
 Follows d (Made e key) C = e ≡ d → key_of d C ≡ None
 Follows d (Asked e n note) C = e ≡ d → IsSome (key_of d C) × (n ≡ asks d C + 1)

@@ -1,10 +1,7 @@
 -- A device's record, as its callers see it, and what holds of each. Money is in mills, days are since 1970-01-01.
 use Rattle.std.specs.Prelude.{◌≡◌, ℕ, ℤ, ◌+◌, ◌≤◌, ◌<◌, Bool, true, false, List, replicate, Option, Some, None, option_map}
-use Rattle.bench_base.specs.declared.words.Kind.{Kind}
-use Rattle.bench_base.specs.declared.words.Kind.TheVariants.{Enrol, Reset, Audit, Refund, Withdraw}
+use Rattle.bench_base.specs.declared.{words.Kind.Kind, words.Kind.TheVariants.Enrol, words.Kind.TheVariants.Reset, words.Kind.TheVariants.Audit, words.Kind.TheVariants.Refund, words.Kind.TheVariants.Withdraw, words.Phase.Phase, words.Phase.TheVariants.Manufactured, words.Phase.TheVariants.Authorised, words.Phase.TheVariants.InService, words.Phase.TheVariants.Withdrawn}
 use Rattle.bench_base.specs.Kinds.{is_allowed}
-use Rattle.bench_base.specs.declared.words.Phase.{Phase}
-use Rattle.bench_base.specs.declared.words.Phase.TheVariants.{Manufactured, Authorised, InService, Withdrawn}
 use Rattle.hmac_core.specs.Hmac.{hmac}
 use Rattle.indicium.specs.declared.Mark.{Mark}
 use Rattle.indicium.specs.Marks as marks
@@ -23,7 +20,7 @@ pub record State : Type 0 where
   pub registers : Sums
   -- of the last transaction that was applied, and 0 before the first
   pub number : ℕ
-  -- the last day on which the device franks any postage, and 0 before it is set
+  -- the last day that the device franks any postage; 0 before it is set
   pub deadline : ℤ
   -- of the last debit or request, and 0 before the first
   pub last_day : ℤ
@@ -50,7 +47,7 @@ IsAmount Withdraw version a s = a ≡ s.descending
 IsAmount Enrol version a s = a ≡ 0
 IsAmount Audit version a s = a ≡ 0
 
--- a request that may be outstanding on the device d, whose last transaction is n, in this phase and with these registers
+-- a request that may be outstanding on the device d with last transaction n, in this phase and with these registers
 pub record IsPending (d n : ℕ) (p : Phase) (s : Sums) (q : Request) : Type 0 where
   pub whole : grammar.IsWhole (m.Request q)
   pub device : q.device ≡ d
@@ -87,7 +84,7 @@ abbrev pub mark_in : Option State → Option (List ℕ)
 mark_in None = None
 mark_in (Some s) = option_map (λ k. marks.spell k s.key) s.mark
 
--- the code of the kept mark, and zeros where there is none
+-- the code of the kept mark, or zeros if no mark is kept
 abbrev pub kept_code : List ℕ → Option Mark → List ℕ
 kept_code key None = replicate 32 0
 kept_code key (Some k) = hmac key (marks.body k)

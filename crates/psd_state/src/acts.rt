@@ -147,7 +147,7 @@ pub fn ask_act(
     }
 }
 
-// A reply whose code is the device's own.
+// A reply with the device's own code.
 fn apply_act(device: DevNo, reply: &ReplyMsg, kept: &DevRec) -> DeviceAct<Taken>
     ensures { result ≡ act_of.applied_act device reply.now (apply_answer kept.now kept.now.pending reply.now) }
 {
@@ -188,7 +188,7 @@ fn reply_act(
     apply_act(device, reply, record.record())
 }
 
-// A debit that came as a message: the piece is told of too.
+// A debit that came as a message: the piece is reported too.
 fn released(piece: u32, act: DeviceAct<Franked>) -> DeviceAct<Taken>
     ensures { result ≡ act_of.released piece act }
 {
@@ -212,9 +212,13 @@ fn released_of(piece: u32, franked: Franked) -> Taken
     }
 }
 
-/// Takes a Reply or a Debit. The first refusal that holds: `Unread` of `read_message`; `Unread` with `Tag` for another
-/// message; for a Debit those of `debit_act`; for a Reply `Blank`, `WrongDevice` with the Reply's device, `BadCode` exactly
-/// where its code is not of this device's key, and then those of `DevRec::apply`.
+/// Takes a Reply or a Debit. The first refusal that holds is answered:
+///
+/// 1. `Unread` of `read_message`.
+/// 2. `Unread` with `Tag` for another message.
+/// 3. For a Debit those of `debit_act`.
+/// 4. For a Reply `Blank`, `WrongDevice` with the Reply's device, `BadCode` if and only if its code is not of this device's
+///    key, and then those of `DevRec::apply`.
 pub fn take_act(
     device: DevNo,
     bytes: &[u8],
@@ -259,7 +263,7 @@ pub fn ack_act(state: &Option<ReadyRecord>) -> DeviceAct<Note>
     }
 }
 
-/// What the device shows of its record on that day. `Blank` where there is none.
+/// What the device shows of its record on that day. `Blank` if there is no record.
 pub fn status_act(day: DayNo, state: &Option<ReadyRecord>) -> DeviceAct<DevStatus>
     ensures { result ≡ act_of.status_act day state.now }
 {

@@ -15,9 +15,13 @@ use registers::Registers;
 impl DevRec {
     /// Ends the transaction that is outstanding by the centre's reply: the record to keep.
     ///
-    /// The first refusal that holds: `NothingPending`, `Stale` where the reply has another number than what is
-    /// outstanding, `Stray` where it has another kind, or is granted with another amount. That the reply is the
-    /// centre's, by its code and its device, is the caller's to know.
+    /// The first refusal that holds is answered:
+    ///
+    /// 1. `NothingPending` if no transaction is outstanding.
+    /// 2. `Stale` if the reply has another number than what is outstanding.
+    /// 3. `Stray` if it has another kind, or is granted with another amount.
+    ///
+    /// The caller must know that the reply is the centre's, by its code and its device.
     pub fn apply(&self, reply: &ReplyMsg) -> Result<DevRec, DevRefusal>
         ensures exact { result ≡ apply_answer self.now self.now.pending reply.now }
         ensures sound { IfOk result (λ s. Holds s) }

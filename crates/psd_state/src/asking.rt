@@ -1,4 +1,4 @@
-//! Transactions: what a device asks its centre for, once and again, and what it tells of the last one.
+//! Transactions: what a device asks its centre for, once and again, and what it reports of the last one.
 ghost use Rattle.std.specs.Prelude.{◌≡◌, IfOk};
 ghost use Rattle.bench_base.specs.Rules.{todays_rules};
 ghost use Rattle.psd_wire.specs.declared.message.Message.TheVariants as m;
@@ -24,11 +24,16 @@ const RESET_LIMIT: u32 = 10_000_000;
 impl DevRec {
     /// Asks for a transaction: the record to keep, and the request to send.
     ///
-    /// The customer counts for an enrolment only, and the amount, in mills, for a reset only. The first refusal that
-    /// holds: `Busy` where a transaction is outstanding, `Phase` where the kind may not be asked for in the stored
-    /// phase, `ClockBack` where the day is before the last one, `Due` where a reset is asked for after the deadline,
-    /// `BadAmount` where a reset is of 0 or above 10,000,000, `TotalFull` where it would take the sum of all registers above its limit, `NumberFull` where the last number
-    /// was 4,294,967,295.
+    /// The customer counts for an enrolment only, and the amount, in mills, for a reset only. The first refusal that holds
+    /// is answered:
+    ///
+    /// 1. `Busy` if a transaction is outstanding.
+    /// 2. `Phase` if the kind may not be asked for in the stored phase.
+    /// 3. `ClockBack` if the day is before the last one.
+    /// 4. `Due` if a reset is asked for after the deadline.
+    /// 5. `BadAmount` if a reset is of 0 or above 10,000,000.
+    /// 6. `TotalFull` if a reset would take the sum of all registers above its limit.
+    /// 7. `NumberFull` if the last number was 4,294,967,295.
     pub fn ask(
         &self,
         kind: Kind,
@@ -101,7 +106,8 @@ impl DevRec {
         Ok((asked, note))
     }
 
-    /// The request that is outstanding, byte for byte as it was sent, in its own version. `NothingPending` where there is none.
+    /// The request that is outstanding, byte for byte as it was sent, in its own version. `NothingPending` if there is no
+    /// such request.
     pub fn resend(&self) -> Result<Note, DevRefusal>
         ensures exact { result ≡ resend_answer self.now self.now.pending }
     {

@@ -31,12 +31,17 @@ pub enum Debited {
 impl DevRec {
     /// Marks a piece, or gives the mark of the last piece once more: the same bytes, and the record stays.
     ///
-    /// The first refusal that holds: `WrongDevice` where another device is named; `Conflict` where the piece is the
-    /// last one, with another postage or class; `WrongPiece` where it is not the next; `Phase` where the stored phase
-    /// is not in service; `Frozen` where a refund or withdrawal is outstanding; `ClockBack` where the day is before
-    /// the last one; `Due` where it is more than seven days after the deadline, or after it and the postage is above
-    /// 1,000 mills; `BadAmount` where the postage is 0 or above 100,000 mills;
-    /// `NoFunds` where it is more than the descending register.
+    /// The first refusal that holds is answered:
+    ///
+    /// 1. `WrongDevice` if another device is named.
+    /// 2. `Conflict` if the piece is the last one, with another postage or class.
+    /// 3. `WrongPiece` if the piece is not the next one.
+    /// 4. `Phase` if the stored phase is not in service.
+    /// 5. `Frozen` if a refund or withdrawal is outstanding.
+    /// 6. `ClockBack` if the day is before the last one.
+    /// 7. `Due` if the day is more than seven days after the deadline, or after it and the postage is above 1,000 mills.
+    /// 8. `BadAmount` if the postage is 0 or above 100,000 mills.
+    /// 9. `NoFunds` if the postage is more than the descending register.
     pub fn debit(&self, command: &DebitMsg, day: DayNo) -> Result<Debited, DevRefusal>
         ensures exact { result ≡ debit_answer todays_rules self.now command.now day }
         ensures sound { IfOk result HoldsAfter }
@@ -64,7 +69,7 @@ impl DevRec {
         }
     }
 
-    // The mark of the last debit, whose code was kept. None if nothing was debited.
+    // The mark of the last debit, with the code that was kept. None if nothing was debited.
     #[tactic(auto, unfolding(crate::specs::Payload::mark_part))]
     fn kept_mark(&self) -> Option<[u8; 64]>
         ensures { result ≡ option_map (λ k. marks.spell k self.now.key) self.now.mark }
@@ -75,7 +80,7 @@ impl DevRec {
         }
     }
 
-    // A debit of the piece that was marked last, whose code was kept.
+    // A debit of the piece that was marked last, with the code that was kept.
     fn again(&self, command: &DebitMsg, mark: &Mark) -> Result<Debited, DevRefusal>
         requires { self.now.mark ≡ Some mark.now }
         ensures { result ≡ answers.again command.now self.now.key mark.now }

@@ -104,7 +104,7 @@ fn request_of(message: Option<Message>) -> Option<Request>
     }
 }
 
-/// The Request whose spelling under the key the bytes are.
+/// The Request that the bytes spell under the key.
 pub fn read_request(bytes: &[u8], key: &Key) -> Option<Request>
     ensures found { IfSome result (λ q. grammar.IsWhole (m.Request q) × (grammar.spell (m.Request q) key.now ≡ bytes.now)) }
     ensures none { IfNone result ((q : TheRequest) → grammar.IsWhole (m.Request q) → grammar.spell (m.Request q) key.now ≡ bytes.now → ⊥) }
@@ -120,7 +120,7 @@ fn room_of_body(version: u8) -> usize
     if version == 1 { 39 } else { 55 }
 }
 
-/// The Request whose body, filled with zeros, the bytes are. A body of version 1 has 39 bytes, one of version 2 55.
+/// The Request that has the bytes as its body, filled with zeros. A body of version 1 has 39 bytes, one of version 2 55.
 pub fn read_filled(bytes: &[u8]) -> Option<Request>
     requires { length bytes.now ≡ 55 }
     ensures found { IfSome result (λ q. grammar.IsWhole (m.Request q) × (filled q ≡ bytes.now)) }
@@ -145,7 +145,7 @@ fn is_genuine(bytes: &[u8], key: &Key, ready: Option<&ReadyKey>) -> bool
     verify_mark(bytes, key)
 }
 
-/// The mark whose spelling under the key the bytes are, and its code. A ready key saves time if it is of this key.
+/// The mark that the bytes spell under the key, and its code. A ready key saves time if it is of this key.
 pub fn read_mark(bytes: &[u8], key: &Key, ready: Option<&ReadyKey>) -> Option<(Mark, [u8; 32])>
     ensures found { IfSome result (λ x. marks.IsWhole x.0 × (marks.spell x.0 key.now ≡ bytes.now) × (hmac key.now (marks.body x.0) ≡ x.1)) }
     ensures none { IfNone result ((k : TheMark) → marks.IsWhole k → marks.spell k key.now ≡ bytes.now → ⊥) }

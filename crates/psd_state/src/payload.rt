@@ -95,7 +95,7 @@ fn ready_key(kept: &Option<ReadyRecord>) -> Option<&ReadyKey> {
     }
 }
 
-// A payload of version 1, whose sums, request and mark are of that version too.
+// A payload of version 1, with sums, request and mark of that version too.
 fn read_first(device: DevNo, payload: &[u8], ready: Option<&ReadyKey>) -> Option<DevRec>
     requires { length payload.now ≡ 209 }
     ensures found { IfSome result (λ s. (s.device ≡ device) × IsOld s × (spelled 1 s ≡ payload.now)) }

@@ -1,4 +1,4 @@
-//! A device's record as a device that is on has it in memory: with its key made ready for codes.
+//! A device's record in the memory of a device that is on, with its key made ready for codes.
 ghost use Rattle.std.specs.Prelude.{◌≡◌, Some};
 
 use crate::record::DevRec;
@@ -25,7 +25,7 @@ impl Model for ReadyRecord {
 }
 
 impl ReadyRecord {
-    /// A record whose key is made ready now.
+    /// This record, with its key made ready now.
     pub fn new(record: &DevRec) -> ReadyRecord
         ensures { result ≡ «record».now }
     {
@@ -42,7 +42,7 @@ impl ReadyRecord {
         &self.record
     }
 
-    /// The key by which messages are written and checked.
+    /// The key that messages are written and checked with.
     pub(crate) fn key(&self) -> &ReadyKey
         ensures { result.now ≡ self.now.key }
     {

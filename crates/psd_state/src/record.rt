@@ -16,8 +16,8 @@ use std::marker::Model;
 
 /// All that a device keeps. Money is in mills, and a day counts from 1970-01-01.
 ///
-/// What is outstanding and the mark of the last debit are kept as values, each with its own version, and the mark's
-/// code beside it, so that neither giving it again nor keeping it makes a code.
+/// What is outstanding and the mark of the last debit are kept as values, each with its own version. The mark's code is
+/// kept beside it. So neither giving the mark again nor keeping it makes a code.
 #[derive(Clone, Copy)]
 pub struct DevRec {
     pub(crate) device: DevNo,
@@ -41,11 +41,49 @@ impl Model for DevRec {
 
     ghost Value = { State };
 
-    ghost view = { λ r. record { device = r.device; phase = r.phase; key = r.key; registers = r.registers; number = r.number; deadline = r.deadline; last_day = r.last_day; customer = r.customer; origin = r.origin; pending = r.pending; mark = r.mark } };
+    ghost view = { λ r. record {
+      device = r.device;
+      phase = r.phase;
+      key = r.key;
+      registers = r.registers;
+      number = r.number;
+      deadline = r.deadline;
+      last_day = r.last_day;
+      customer = r.customer;
+      origin = r.origin;
+      pending = r.pending;
+      mark = r.mark;
+    } };
 
-    ghost invariant = { λ r. Holds (record { device = r.device; phase = r.phase; key = r.key; registers = r.registers; number = r.number; deadline = r.deadline; last_day = r.last_day; customer = r.customer; origin = r.origin; pending = r.pending; mark = r.mark }) × (kept_code r.key r.mark ≡ r.code) };
+    ghost invariant = { λ r. Holds (record {
+      device = r.device;
+      phase = r.phase;
+      key = r.key;
+      registers = r.registers;
+      number = r.number;
+      deadline = r.deadline;
+      last_day = r.last_day;
+      customer = r.customer;
+      origin = r.origin;
+      pending = r.pending;
+      mark = r.mark;
+    })
+        × (kept_code r.key r.mark ≡ r.code) };
 
-    ghost inverse = { λ r. record { device = r.device; phase = r.phase; key = r.key; registers = r.registers; number = r.number; deadline = r.deadline; last_day = r.last_day; customer = r.customer; origin = r.origin; pending = r.pending; mark = r.mark; code = kept_code r.key r.mark } };
+    ghost inverse = { λ r. record {
+      device = r.device;
+      phase = r.phase;
+      key = r.key;
+      registers = r.registers;
+      number = r.number;
+      deadline = r.deadline;
+      last_day = r.last_day;
+      customer = r.customer;
+      origin = r.origin;
+      pending = r.pending;
+      mark = r.mark;
+      code = kept_code r.key r.mark;
+    } };
 
     ghost inverse_ok = { λ r h. λ i. record r { code = h.1 i } };
 }
@@ -102,7 +140,7 @@ impl DevRec {
         }
     }
 
-    /// The key by which a reply's code is checked.
+    /// The key that a reply's code is checked with.
     pub fn key(&self) -> &Key
         ensures value { result.now ≡ self.now.key }
         ensures sound { Holds self.now }

@@ -21,7 +21,7 @@ kind_is bytes = ap kind_of (byte_of 10 bytes)
 verdict_is : (bytes : List ℕ) → verdict_of (number One (take 1 (drop 11 bytes))) ≡ verdict_at bytes
 verdict_is bytes = ap verdict_of (byte_of 11 bytes)
 
--- the day stands behind device, number, kind, customer, four sums and pieces
+-- the day follows device, number, kind, customer, four sums and pieces
 abbrev day_behind : ℕ → ℕ
 day_behind sum = 15 + sum + sum + sum + sum + 4
 

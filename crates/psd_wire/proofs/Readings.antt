@@ -8,11 +8,7 @@ use Rattle.std.proofs.lemmas.Option.{same_Some, none-some}
 use Rattle.bench_base.specs.Table.{Size, One, Four, Eight, number, row, values, Fit, IsBytes, room}
 use Rattle.bench_base.specs.Rules.{is_version, IsVersion}
 use Rattle.bench_base.proofs.Tables.{row_values, values_row, values_fit, length_row, joined, first_number, second_number, first_cell, second_cell}
-use Rattle.bench_base.specs.declared.words.Kind.{Kind}
-use Rattle.bench_base.specs.declared.words.Kind.TheVariants.{Enrol, Reset, Audit, Refund, Withdraw}
-use Rattle.bench_base.specs.declared.words.Verdict.{Verdict}
-use Rattle.bench_base.specs.declared.words.Verdict.TheVariants.{Granted, NotEnrolled, EnrolledAlready, NoCustomer, Suspended, NoFunds, Imbalance}
-use Rattle.bench_base.specs.declared.refusals.Unread.{Unread}
+use Rattle.bench_base.specs.declared.{words.Kind.Kind, words.Kind.TheVariants.Enrol, words.Kind.TheVariants.Reset, words.Kind.TheVariants.Audit, words.Kind.TheVariants.Refund, words.Kind.TheVariants.Withdraw, words.Verdict.Verdict, words.Verdict.TheVariants.Granted, words.Verdict.TheVariants.NotEnrolled, words.Verdict.TheVariants.EnrolledAlready, words.Verdict.TheVariants.NoCustomer, words.Verdict.TheVariants.Suspended, words.Verdict.TheVariants.NoFunds, words.Verdict.TheVariants.Imbalance, refusals.Unread.Unread}
 use Rattle.bench_base.specs.declared.refusals.Unread.TheVariants as unread
 use Rattle.bench_base.proofs.Facts.{read_sfits, ok_same, known, known_is}
 use Rattle.hmac_core.specs.Hmac.{hmac}
@@ -20,11 +16,7 @@ use Rattle.hmac_core.proofs.Codes.{length_hmac}
 use Rattle.indicium.specs.Marks.{read_mark}
 use Rattle.indicium.specs.declared.Mark.{Mark}
 use Rattle.indicium.proofs.Readings.{let_through, if_ok}
-use Rattle.psd_wire.specs.declared.message.Request.{Request}
-use Rattle.psd_wire.specs.declared.message.ReplyMsg.{ReplyMsg}
-use Rattle.psd_wire.specs.declared.message.DoneMsg.{DoneMsg}
-use Rattle.psd_wire.specs.declared.message.DebitMsg.{DebitMsg}
-use Rattle.psd_wire.specs.declared.message.Message.{Message}
+use Rattle.psd_wire.specs.declared.{message.Request.Request, message.ReplyMsg.ReplyMsg, message.DoneMsg.DoneMsg, message.DebitMsg.DebitMsg, message.Message.Message}
 use Rattle.psd_wire.specs.declared.message.Message.TheVariants as m
 use Rattle.psd_wire.specs.Grammar.{kind_code, kind_of, verdict_code, verdict_of, sum_size, request_table, request_values, reply_table, reply_values, done_table, done_values, debit_table, debit_values, body, spell, is_coded, IsDay, IsWhole, size_of, given, day_of, request_from, request_in, request_at, reply_from, reply_in, reply_at, done_from, done_at, debit_from, debit_at, release_at, if_mark, by_tag, read, HasCode, IsReading, IsCoded, coded_in}
 pub use Rattle.psd_wire.specs.Grammar.{ReadsAs, code_room}
@@ -311,7 +303,7 @@ held_back false r e y h = (refl, h)
 behind : (bytes : List ℕ) (n k : ℕ) (front : List ℕ) → length bytes ≡ n + k → front ≡ take n bytes → (bytes ≡ front ++ drop n bytes) × (length (drop n bytes) ≡ k)
 behind bytes n k front l e = (sym (take-append-drop n bytes) ∙ ap (λ f. f ++ drop n bytes) (sym e), omega (arith, length-drop n bytes, l))
 
--- a body that was found, and the rest behind it
+-- a body that was found, and the rest after it
 reads : (bytes : List ℕ) (x : Message) (n k : ℕ) → IsWhole x × (body x ≡ take n bytes) × (code_room x ≡ k) → length bytes ≡ n + k → (code : List ℕ) × ReadsAs bytes x code
 reads bytes x n k found l =
     let rest = behind bytes n k (body x) l found.1 in
@@ -510,7 +502,7 @@ only bytes x (code, r) = ap read r.spelled ∙ read_body x code r.whole r.long
 pub one_reading : (bytes : List ℕ) (x y : Message) → IsReading bytes x → IsReading bytes y → x ≡ y
 one_reading bytes x y r s = ok_same (sym (only bytes x r) ∙ only bytes y s)
 
--- == the message whose spelling the bytes are ==
+-- == the message that the bytes spell ==
 
 coded_found : (r : Result Message Unread) (x : Message) → coded_in r ≡ Some x → (r ≡ Ok x) × IsCoded x
 coded_found (Ok (m.Request q)) x h = let is = same_Some _ _ h in (ap (λ y. Ok y) is, subst IsCoded is refl)
@@ -568,7 +560,7 @@ length_coded_body (m.Done r) c w = omega (arith, length_row done_table (done_val
 length_coded_body (m.Debit r) c w = absurd (cc)
 length_coded_body (m.Release x) c w = absurd (cc)
 
--- bytes laid into zeros, and the 32 zeros behind them
+-- bytes laid into zeros, and the 32 zeros after them
 pub filled : (bytes new : List ℕ) → length bytes ≤ 55 → new ≡ bytes → take (length bytes + 32) (new ++ drop (length bytes) (replicate 87 0)) ≡ bytes ++ replicate 32 0
 filled bytes new short same =
     let rest : List ℕ = drop (length bytes) (replicate 87 0) in
@@ -577,7 +569,7 @@ filled bytes new short same =
     ∙ ap₂ (λ a b. a ++ b) (take_at bytes rest (length bytes) refl)
     (ap (take 32) (drop_at bytes rest (0 + length bytes) (omega arith) ∙ drop-replicate (length bytes) 87 0) ∙ take-replicate 32 (87 - length bytes) 0 (omega (arith, short)))
 
--- bytes with 32 zeros behind them read as a message if and only if they are its body
+-- bytes with 32 zeros after them read as a message if and only if they are its body
 pub body_found : (bytes : List ℕ) → IsBytes (bytes ++ replicate 32 0)
     → IfSome (coded_in (read (bytes ++ replicate 32 0))) (λ x. IsCoded x × IsWhole x × (body x ≡ bytes))
 body_found bytes h = if_some (coded_in (read (bytes ++ replicate 32 0))) _

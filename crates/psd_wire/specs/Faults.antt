@@ -1,9 +1,7 @@
 -- Why bytes are no message. Each fault holds only where those before it do not.
 use Rattle.std.specs.Prelude.{◌≡◌, ◌≢◌, ◌==◌, if◌then◌else◌, ℕ, ℤ, ◌<◌, ◌≤◌, ◌⊎◌, List, length, take, drop, slice_index, Option, Some, None, IsSome, IsErr}
 use Rattle.std.specs.Int.{w32, from_be_bytes, cast_signed}
-use Rattle.bench_base.specs.declared.words.Kind.{Kind}
-use Rattle.bench_base.specs.declared.words.Verdict.{Verdict}
-use Rattle.bench_base.specs.declared.refusals.Unread.{Unread}
+use Rattle.bench_base.specs.declared.{words.Kind.Kind, words.Verdict.Verdict, refusals.Unread.Unread}
 use Rattle.bench_base.specs.declared.refusals.Unread.TheVariants as unread
 use Rattle.bench_base.specs.Rules.{IsVersion}
 use Rattle.indicium.specs.Marks.{read_mark}

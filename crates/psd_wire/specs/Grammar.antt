@@ -5,19 +5,11 @@ use Rattle.std.specs.Int.{w32, cast_unsigned, cast_signed}
 use Rattle.hmac_core.specs.Hmac.{hmac}
 use Rattle.bench_base.specs.Table.{Size, One, Two, Four, Eight, row, values, Fit}
 use Rattle.bench_base.specs.Rules.{is_version, IsVersion}
-use Rattle.bench_base.specs.declared.words.Kind.{Kind}
-use Rattle.bench_base.specs.declared.words.Kind.TheVariants.{Enrol, Reset, Audit, Refund, Withdraw}
-use Rattle.bench_base.specs.declared.words.Verdict.{Verdict}
-use Rattle.bench_base.specs.declared.words.Verdict.TheVariants.{Granted, NotEnrolled, EnrolledAlready, NoCustomer, Suspended, NoFunds, Imbalance}
-use Rattle.bench_base.specs.declared.refusals.Unread.{Unread}
+use Rattle.bench_base.specs.declared.{words.Kind.Kind, words.Kind.TheVariants.Enrol, words.Kind.TheVariants.Reset, words.Kind.TheVariants.Audit, words.Kind.TheVariants.Refund, words.Kind.TheVariants.Withdraw, words.Verdict.Verdict, words.Verdict.TheVariants.Granted, words.Verdict.TheVariants.NotEnrolled, words.Verdict.TheVariants.EnrolledAlready, words.Verdict.TheVariants.NoCustomer, words.Verdict.TheVariants.Suspended, words.Verdict.TheVariants.NoFunds, words.Verdict.TheVariants.Imbalance, refusals.Unread.Unread}
 use Rattle.bench_base.specs.declared.refusals.Unread.TheVariants as unread
 use Rattle.indicium.specs.Marks.{read_mark}
 use Rattle.indicium.specs.declared.Mark.{Mark}
-use Rattle.psd_wire.specs.declared.message.Request.{Request}
-use Rattle.psd_wire.specs.declared.message.ReplyMsg.{ReplyMsg}
-use Rattle.psd_wire.specs.declared.message.DoneMsg.{DoneMsg}
-use Rattle.psd_wire.specs.declared.message.DebitMsg.{DebitMsg}
-use Rattle.psd_wire.specs.declared.message.Message.{Message}
+use Rattle.psd_wire.specs.declared.{message.Request.Request, message.ReplyMsg.ReplyMsg, message.DoneMsg.DoneMsg, message.DebitMsg.DebitMsg, message.Message.Message}
 use Rattle.psd_wire.specs.declared.message.Message.TheVariants as m
 
 -- the number of a kind
@@ -30,7 +22,8 @@ kind_code Withdraw = 5
 
 -- the kind of a number, if it has one
 unfoldable pub kind_of : ℕ → Option Kind
-kind_of n = if n == 1 then Some Enrol else if n == 2 then Some Reset else if n == 3 then Some Audit else if n == 4 then Some Refund else if n == 5 then Some Withdraw else None
+kind_of n = if n == 1 then Some Enrol else if n == 2 then Some Reset else if n == 3 then Some Audit else if n == 4 then Some Refund
+    else if n == 5 then Some Withdraw else None
 
 -- the number of a verdict
 abbrev pub verdict_code : Verdict → ℕ
@@ -44,7 +37,8 @@ verdict_code Imbalance = 6
 
 -- the verdict of a number, if it has one
 unfoldable pub verdict_of : ℕ → Option Verdict
-verdict_of n = if n == 0 then Some Granted else if n == 1 then Some NotEnrolled else if n == 2 then Some EnrolledAlready else if n == 3 then Some NoCustomer else if n == 4 then Some Suspended else if n == 5 then Some NoFunds else if n == 6 then Some Imbalance else None
+verdict_of n = if n == 0 then Some Granted else if n == 1 then Some NotEnrolled else if n == 2 then Some EnrolledAlready
+    else if n == 3 then Some NoCustomer else if n == 4 then Some Suspended else if n == 5 then Some NoFunds else if n == 6 then Some Imbalance else None
 
 -- == the layouts ==
 
@@ -58,7 +52,8 @@ request_table s = One ∷ One ∷ Four ∷ Four ∷ One ∷ Four ∷ s ∷ s ∷
 
 -- the numbers of a Request, field by field
 abbrev pub request_values : Request → List ℕ
-request_values q = q.version ∷ 1 ∷ q.device ∷ q.number ∷ kind_code q.kind ∷ q.customer ∷ q.amount ∷ q.ascending ∷ q.descending ∷ q.refunded ∷ q.pieces ∷ cast_unsigned w32 q.day ∷ []
+request_values q = q.version ∷ 1 ∷ q.device ∷ q.number ∷ kind_code q.kind ∷ q.customer ∷ q.amount ∷ q.ascending ∷ q.descending ∷ q.refunded ∷ q.pieces
+    ∷ cast_unsigned w32 q.day ∷ []
 
 -- version, tag, device, number, kind, verdict, amount, deadline, origin
 abbrev pub reply_table : Size → List Size
@@ -119,17 +114,17 @@ IsWhole (m.Release x) = (found : Mark × List ℕ) × (read_mark x ≡ Ok found)
 abbrev pub IsCoded : Message → Type 0
 IsCoded x = is_coded x ≡ true
 
--- how many bytes of a code stand behind the body
+-- how many bytes of a code follow the body
 abbrev pub code_room : Message → ℕ
 code_room x = if is_coded x then 32 else 0
 
--- the bytes are the body of the message, with this code behind it
+-- the bytes are the body of the message, followed by this code
 pub record ReadsAs (bytes : List ℕ) (x : Message) (code : List ℕ) : Type 0 where
   pub whole : IsWhole x
   pub spelled : bytes ≡ body x ++ code
   pub long : length code ≡ code_room x
 
--- with some code behind it
+-- with some code after it
 abbrev pub IsReading : List ℕ → Message → Type 0
 IsReading bytes x = (code : List ℕ) × ReadsAs bytes x code
 
@@ -173,7 +168,8 @@ request_from vs kind day = record {
 
 -- the Request in these numbers, if its kind and its day are valid
 abbrev pub request_in : List ℕ → Result Message Unread
-request_in vs = given unread.Kind (kind_of (get_or vs 4 0)) (λ kind. given unread.Day (day_of (cast_signed w32 (get_or vs 11 0))) (λ day. Ok (m.Request (request_from vs kind day))))
+request_in vs = given unread.Kind (kind_of (get_or vs 4 0))
+    (λ kind. given unread.Day (day_of (cast_signed w32 (get_or vs 11 0))) (λ day. Ok (m.Request (request_from vs kind day))))
 
 -- the Request in these bytes
 unfoldable pub request_at : List ℕ → Result Message Unread
@@ -194,7 +190,8 @@ reply_from vs kind verdict = record {
 
 -- the Reply in these numbers, if its kind and its verdict are valid
 abbrev pub reply_in : List ℕ → Result Message Unread
-reply_in vs = given unread.Kind (kind_of (get_or vs 4 0)) (λ kind. given unread.Verdict (verdict_of (get_or vs 5 0)) (λ verdict. Ok (m.Reply (reply_from vs kind verdict))))
+reply_in vs = given unread.Kind (kind_of (get_or vs 4 0))
+    (λ kind. given unread.Verdict (verdict_of (get_or vs 5 0)) (λ verdict. Ok (m.Reply (reply_from vs kind verdict))))
 
 -- the Reply in these bytes
 unfoldable pub reply_at : List ℕ → Result Message Unread
@@ -239,7 +236,8 @@ unfoldable pub read : List ℕ → Result Message Unread
 read bytes =
     if nat_lt (length bytes) 2 then Err unread.Length
     else if is_version (get_or bytes 0 0)
-    then given unread.Tag (size_of (get_or bytes 0 0) (get_or bytes 1 0)) (λ n. if length bytes == n then by_tag (get_or bytes 1 0) bytes else Err unread.Length)
+    then given unread.Tag (size_of (get_or bytes 0 0) (get_or bytes 1 0))
+    (λ n. if length bytes == n then by_tag (get_or bytes 1 0) bytes else Err unread.Length)
     else Err unread.Version
 
 -- the message that was read, if it ends in a code

@@ -13,7 +13,7 @@ ReadsBack = (x : Message) (key : List ℕ) → IsWhole x → read (spell x key) 
 abbrev pub SpellsBack : Type 0
 SpellsBack = (x : Message) (key bytes : List ℕ) → IsBytes bytes → is_coded x ≡ true → read bytes ≡ Ok x → HasCode bytes key → spell x key ≡ bytes
 
--- what is read and wants no code is spelled so under any key
+-- what is read and needs no code is spelled so under any key
 abbrev pub SpellsBackUncoded : Type 0
 SpellsBackUncoded = (x : Message) (key bytes : List ℕ) → IsBytes bytes → is_coded x ≡ false → read bytes ≡ Ok x → spell x key ≡ bytes
 
@@ -29,7 +29,7 @@ OneSpelling = (x y : Message) (key : List ℕ) → IsWhole x → IsWhole y → s
 abbrev pub OneReading : Type 0
 OneReading = (bytes : List ℕ) (x y : Message) → IsReading bytes x → IsReading bytes y → x ≡ y
 
--- a body with its code under a key behind it reads as the message
+-- a body followed by its code under a key reads as the message
 abbrev pub ReadsBody : Type 0
 ReadsBody = (x : Message) (key : List ℕ) → is_coded x ≡ true → IsWhole x → read (body x ++ hmac key (body x)) ≡ Ok x
 

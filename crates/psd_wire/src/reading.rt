@@ -254,12 +254,16 @@ fn message_of(bytes: &[u8]) -> Result<Message, Unread>
     }
 }
 
-/// The message of these bytes. The code behind it is not checked.
+/// The message of these bytes. The code after it is not checked. The first fault is answered:
 ///
-/// The first fault is answered: `Length` where there are fewer than two bytes, `Version` where byte 0 is
-/// neither 1 nor 2, `Tag` where byte 1 is no tag of that version, `Length` where there are not as many bytes as
-/// version and tag have, `Kind` where the kind's byte is not 1 to 5, `Verdict` where the verdict's byte is not 0 to 6, `Day` where a Request's day is
-/// out of range, and `Mark` where a Release's 64 bytes are no indicium.
+/// 1. `Length` if there are fewer than two bytes.
+/// 2. `Version` if byte 0 is neither 1 nor 2.
+/// 3. `Tag` if byte 1 is no tag of that version.
+/// 4. `Length` if there are not as many bytes as version and tag have.
+/// 5. `Kind` if the kind's byte is not 1 to 5.
+/// 6. `Verdict` if the verdict's byte is not 0 to 6.
+/// 7. `Day` if a Request's day is out of range.
+/// 8. `Mark` if a Release's 64 bytes are no indicium.
 pub fn read_message(bytes: &[u8]) -> Result<Message, Unread>
     ensures exact { result ≡ read bytes.now }
     ensures found { IfOk result (λ message. IsReading bytes.now message) }
@@ -294,8 +298,8 @@ pub fn is_own_code(bytes: &[u8], key: &ReadyKey) -> bool
     code_matches_by(bytes, key)
 }
 
-/// The message whose spelling under the key the bytes are, among those that end in a code; None if and only if
-/// they are the spelling of none.
+/// The message that the bytes spell under the key, among those that end in a code; None if and only if they spell no such
+/// message.
 pub fn read_under(bytes: &[u8], key: &Key) -> Option<Message>
     ensures found { IfSome result (λ x. IsCoded x × IsWhole x × (spell x key.now ≡ bytes.now)) }
     ensures none { IfNone result ((x : TheMessage) → IsCoded x → IsWhole x → spell x key.now ≢ bytes.now) }
@@ -315,8 +319,8 @@ pub fn read_under_by(bytes: &[u8], key: &ReadyKey) -> Option<Message>
     }
 }
 
-/// The message whose body the bytes are, among those that end in a code; None if and only if they are the body of
-/// none. A body is all but the code.
+/// The message with the bytes as its body, among those that end in a code; None if and only if they are the body of no such
+/// message. A body is all but the code.
 pub fn read_body(bytes: &[u8]) -> Option<Message>
     ensures found { IfSome result (λ x. IsCoded x × IsWhole x × (body x ≡ bytes.now)) }
     ensures none { IfNone result ((x : TheMessage) → IsCoded x → IsWhole x → body x ≢ bytes.now) }

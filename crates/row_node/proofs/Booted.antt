@@ -1,4 +1,4 @@
--- Storage whose cells hold no sound rows is damaged.
+-- Storage is damaged if its cells hold no sound rows.
 use Rattle.std.proofs.Common.{◌≡◌, ◌⊎◌, inl, inr, ℕ, subst}
 use Rattle.nv_model.specs.declared.nv.Nv.{Ghosts}
 use Rattle.nv_store.specs.Store.{Shows, OnlyShows}

@@ -2,8 +2,7 @@
 use Rattle.std.proofs.Common.{◌≡◌, ◌⊎◌, inl, inr, ℕ, List, Option, Bool, Result, Ok, Err, IsErrOf, false, is_ok, sym, ◌∙◌, ap, subst}
 use Rattle.std.proofs.Math.Path.{fun_ext}
 use Rattle.std.proofs.lemmas.Bool.{cases_eq}
-use Rattle.bench_base.specs.declared.refusals.StoreFail.{StoreFail}
-use Rattle.bench_base.specs.declared.refusals.StoreFail.TheVariants.{Worn}
+use Rattle.bench_base.specs.declared.{refusals.StoreFail.StoreFail, refusals.StoreFail.TheVariants.Worn}
 use Rattle.nv_model.specs.declared.nv.Nv.{Ghosts}
 use Rattle.nv_store.specs.Slot.{Held}
 use Rattle.nv_store.specs.Store.{Between}

@@ -1,4 +1,4 @@
--- That no cell has more commits than can be counted.
+-- No cell has more commits than can be counted.
 use Rattle.std.proofs.Common.{◌≡◌, inl, inr, ℕ, ◌<◌, ◌≤◌, length, Option, None, false, sym, ◌∙◌, ap, subst, arith}
 use Rattle.std.proofs.lemmas.Bool.{cases_eq, cases_lt}
 use Rattle.std.proofs.lemmas.List.{get_or_past}
@@ -12,7 +12,8 @@ use Rattle.row_node.specs.Tables.{Table, seen_of}
 use Rattle.row_node.specs.Boots.{Found}
 
 -- of what a boot found
-pub few_found : {S X : Type 0} (t : Table S X) (m : S) (held : ℕ → Option Held) → Found t m held → (k : ℕ) → commits_at (row_at (seen_of t m held) k) ≤ MOST_COMMITS
+pub few_found : {S X : Type 0} (t : Table S X) (m : S) (held : ℕ → Option Held) → Found t m held → (k : ℕ)
+    → commits_at (row_at (seen_of t m held) k) ≤ MOST_COMMITS
 few_found t m held found k = elim (cases_lt k t.cells) [
   | inl inside ↦ subst (λ (n : ℕ). n ≤ MOST_COMMITS) (sym (seen_count t.cells t.reads (t.kept m held) held found.keeps.filled k inside)) (found.few k inside)
   | inr past ↦

@@ -52,7 +52,8 @@ foreign_shown size cells reads held image shows foreign = record {
 }
 
 -- whether it is filled so has one answer where a payload reads as a row in one way
-pub filled_prop : {R : Type 0} (reads : R → List ℕ → Type 0) → ((x : R) (p : List ℕ) → IsProp (reads x p)) → (o : Option R) (h : Option Held) → IsProp (IsFilled reads o h)
+pub filled_prop : {R : Type 0} (reads : R → List ℕ → Type 0) → ((x : R) (p : List ℕ) → IsProp (reads x p)) → (o : Option R) (h : Option Held)
+    → IsProp (IsFilled reads o h)
 filled_prop reads one None None = hlevel
 filled_prop reads one None (Some h) = hlevel
 filled_prop reads one (Some x) None = hlevel
@@ -111,7 +112,8 @@ module _ {R : Type 0} (cells : ℕ) (reads : ℕ → R → List ℕ → Type 0) 
     seen_shown size image shows = record {
       each = λ k lt.
           subst (λ (o : Option (ℕ × R)). IsHeldAs (reads k) o (cell_shown size 2 image k)) (sym (seen_at k lt))
-          (subst (λ (h : Option Held). IsHeldAs (reads k) (with_count (held k) (rows k)) h) (sym (shows.each k lt)) (held_as (reads k) (rows k) (held k) (filled k lt)));
+          (subst (λ (h : Option Held). IsHeldAs (reads k) (with_count (held k) (rows k)) h) (sym (shows.each k lt))
+          (held_as (reads k) (rows k) (held k) (filled k lt)));
       clear = shows.clear;
     }
 
@@ -125,7 +127,8 @@ module _ {R : Type 0} (cells : ℕ) (reads : ℕ → R → List ℕ → Type 0) 
         still_filled k lt = elim (cases_eq k cell) [
           | inl is ↦
               subst (λ (j : ℕ). IsFilled (reads j) (rows' j) (held' j)) (sym is)
-              (subst (λ (o : Option R). IsFilled (reads cell) o (held' cell)) (sym here) (subst (λ (h : Option Held). IsFilled (reads cell) (Some x) h) (sym held_here) row))
+              (subst (λ (o : Option R). IsFilled (reads cell) o (held' cell)) (sym here)
+              (subst (λ (h : Option Held). IsFilled (reads cell) (Some x) h) (sym held_here) row))
           | inr differs ↦
               subst (λ (o : Option R). IsFilled (reads k) o (held' k)) (sym (others k differs))
               (subst (λ (h : Option Held). IsFilled (reads k) (rows k) h) (sym (held_others k differs)) (filled k lt))
@@ -136,7 +139,8 @@ module _ {R : Type 0} (cells : ℕ) (reads : ℕ → R → List ℕ → Type 0) 
             put_listed cells (λ k. with_count (held k) (rows k)) (λ k. with_count (held' k) (rows' k)) cell x inside
             (ap (λ (o : Option R). with_count (held' cell) o) here ∙ ap (λ (h : Option Held). with_count h (Some x)) held_here
             ∙ ap (λ (n : ℕ). one_more n) (sym (count_kept (reads cell) (rows cell) (held cell) (filled cell inside))))
-            (λ k differs. ap (λ (o : Option R). with_count (held' k) o) (others k differs) ∙ ap (λ (h : Option Held). with_count h (rows k)) (held_others k differs))
+            (λ k differs. ap (λ (o : Option R). with_count (held' k) o) (others k differs)
+            ∙ ap (λ (h : Option Held). with_count h (rows k)) (held_others k differs))
           where
             one_more : ℕ → Option (ℕ × R)
             one_more n = Some (n + 1, x)
@@ -157,7 +161,8 @@ module _ {R : Type 0} (cells : ℕ) (reads : ℕ → R → List ℕ → Type 0) 
             | inl is ↦ subst (λ (j : ℕ). IsHeldAs (reads j) (row_at (put seen cell x) j) (cell_shown size 2 image j)) (sym is) (put_held image new)
             | inr differs ↦
                 subst (λ (o : Option (ℕ × R)). IsHeldAs (reads k) o (cell_shown size 2 image k)) (sym (put_other seen cell x k differs ∙ seen_at k lt))
-                (subst (λ (h : Option Held). IsHeldAs (reads k) (with_count (held k) (rows k)) h) (sym (between.others k lt differs)) (held_as (reads k) (rows k) (held k) (filled k lt)))
+                (subst (λ (h : Option Held). IsHeldAs (reads k) (with_count (held k) (rows k)) h) (sym (between.others k lt differs))
+                (held_as (reads k) (rows k) (held k) (filled k lt)))
           ];
           clear = between.clear;
         })
@@ -166,7 +171,8 @@ module _ {R : Type 0} (cells : ℕ) (reads : ℕ → R → List ℕ → Type 0) 
           put_held : (image : List ℕ) → cell_shown size 2 image cell ≡ after_commit (held cell) payload
               → IsHeldAs (reads cell) (row_at (put seen cell x) cell) (cell_shown size 2 image cell)
           put_held image new =
-              subst (λ (o : Option (ℕ × R)). IsHeldAs (reads cell) o (cell_shown size 2 image cell)) (sym (put_here seen cell x (omega (arith, inside, seen_long))))
+              subst (λ (o : Option (ℕ × R)). IsHeldAs (reads cell) o (cell_shown size 2 image cell))
+              (sym (put_here seen cell x (omega (arith, inside, seen_long))))
               (subst (λ (h : Option Held). IsHeldAs (reads cell) (Some (commits_at (row_at seen cell) + 1, x)) h) (sym new)
               (ap (λ (n : ℕ). n + 1) (sym (seen_count cell inside)), row))
 
@@ -177,10 +183,18 @@ sum_first : (n : ℕ) (held : ℕ → Option Held) → count_sum (suc n) held �
 sum_first zero held = omega arith
 sum_first (suc n) held = omega (arith, sum_first n held)
 
-sum_listed : {R : Type 0} (s : RowList R) (held : ℕ → Option Held) → ((k : ℕ) → k < length s → commits_at (row_at s k) ≡ count_of (held k)) → commits_in s ≡ count_sum (length s) held
+sum_listed : {R : Type 0} (s : RowList R) (held : ℕ → Option Held) → ((k : ℕ) → k < length s → commits_at (row_at s k) ≡ count_of (held k))
+    → commits_in s ≡ count_sum (length s) held
 sum_listed [] held same = refl
 sum_listed (x ∷ s) held same =
-    omega (arith, sum_by-cons commits_at x s, sum_first (length s) held, same 0 (omega arith), sum_listed s (λ k. held (suc k)) (λ k lt. same (suc k) (omega arith)))
+    omega (
+      arith,
+      sum_by-cons commits_at x s,
+      sum_first (length s) held,
+      same 0 (omega arith),
+      sum_listed s (λ k. held (suc k))
+          (λ k lt. same (suc k) (omega arith)),
+    )
 
 pub seen_counts : {R : Type 0} (cells : ℕ) (reads : ℕ → R → List ℕ → Type 0) (rows : ℕ → Option R) (held : ℕ → Option Held)
     → AreFilled cells reads rows held → commits_in (seen_by cells held rows) ≡ count_sum cells held

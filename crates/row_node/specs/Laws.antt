@@ -1,4 +1,4 @@
--- The laws of a table of rows, of which each kind of node gives a proof.
+-- The laws of a table of rows, which each kind of node proves.
 use Rattle.std.specs.Prelude.{◌≡◌, ◌≢◌, ℕ, ◌<◌, ◌≤◌, List, length, Option, Some, None, Bool, false, IsSome, MatchBool}
 use Rattle.nv_store.specs.declared.TheConstants.{MOST_BYTES}
 use Rattle.nv_store.specs.Slot.{Held}
@@ -41,6 +41,7 @@ pub record Laws {S X : Type 0} (size : ℕ) (t : Table S X) : Type 0 where
   -- a sound record has a place for each cell, and its rows agree
   pub long : (s : RowList t.Row) → t.IsSound s → length s ≡ t.cells
   pub agree : (s : RowList t.Row) → t.IsSound s → t.Agree s
-  -- what a boot finds is sound, and so is what a commit makes of it
+  -- what a boot finds is sound, and what a commit makes of it is sound too
   pub sound : (m : S) (held : ℕ → Option Held) → Found t m held → t.IsSound (seen_of t m held)
-  pub stays_sound : (s : RowList t.Row) (x : X) → t.IsSound s → t.HasCell x → t.IsFit s x → (counting t).is_worn s x ≡ false → t.IsSound ((counting t).after s x)
+  pub stays_sound : (s : RowList t.Row) (x : X) → t.IsSound s → t.HasCell x → t.IsFit s x → (counting t).is_worn s x ≡ false
+      → t.IsSound ((counting t).after s x)

@@ -1,19 +1,16 @@
 -- What contracts see of a running node of rows and of its calls.
 use Rattle.std.specs.Prelude.{◌≡◌, Option, Result, None}
-use Rattle.bench_base.specs.declared.ledger.Commit.{Commit}
-use Rattle.bench_base.specs.declared.refusals.Fail.{Fail}
+use Rattle.bench_base.specs.declared.{ledger.Commit.Commit, refusals.Fail.Fail}
 use Rattle.nv_model.specs.declared.nv.Nv as nv
 use Rattle.nv_model.specs.Moments.{Only}
 use Rattle.node_acts.specs.RowList.{RowList}
-use Rattle.node_acts.specs.declared.act.Act.{Act}
-use Rattle.node_acts.specs.declared.act.Act.TheVariants.{Commits}
+use Rattle.node_acts.specs.declared.{act.Act.Act, act.Act.TheVariants.Commits}
 use Rattle.node_storage.specs.Performed.{Performed}
 use Rattle.row_node.specs.Tables.{IsShown, bytes_of, counting, fill_of}
 use Rattle.row_node.specs.NodeView.{storage_in, seen_in}
 use Rattle.row_node.specs.declared.cells.Cells as cells
 use Rattle.row_node.specs.declared.rows.Rows as rows
-use Rattle.row_node.specs.declared.node.RowNode.{RowNode}
-use Rattle.row_node.specs.declared.running.RunningRows.{RunningRows}
+use Rattle.row_node.specs.declared.{node.RowNode.RowNode, running.RunningRows.RunningRows}
 
 module _ {N R X M P : Type 0} {g : nv.Ghosts N} {r : rows.Ghosts R X M P} {m : cells.Ghosts M P} where
   abbrev pub node_of : RunningRows N R X M P g r m → RowNode N R X M P g r m
@@ -45,5 +42,6 @@ module _ {N R X M P : Type 0} {g : nv.Ghosts N} {r : rows.Ghosts R X M P} {m : c
 
   -- what a call of this act did, answered and left
   pub record Performs {F A : Type 0} (act : Act X F A) (old new : RunningRows N R X M P g r m) (result : Result A (Fail F)) : Type 0 where
-    pub performed : Performed g (counting r.table) (fill_of r.table m.size) (IsShown r.table m.size) (λ k. storage_in k.node) (λ k. seen_in k.node) (λ k. k.torn) act old.running new.running result
+    pub performed : Performed g (counting r.table) (fill_of r.table m.size) (IsShown r.table m.size) (λ k. storage_in k.node) (λ k. seen_in k.node)
+        (λ k. k.torn) act old.running new.running result
     pub size : g.size (storage_of new) ≡ bytes_of r.table m.size

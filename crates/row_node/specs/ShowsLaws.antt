@@ -38,7 +38,8 @@ module _ {R : Type 0} (size cells : ℕ) (reads : ℕ → R → List ℕ → Typ
 
   not_foreign : (s : RowList R) (image : List ℕ) → ShowsRows size cells reads s image → HasForeignCell size cells reads image → ⊥
   not_foreign s image shows foreign =
-      by_row (row_at s foreign.cell) (subst (λ (o : Option Held). IsHeldAs (reads foreign.cell) (row_at s foreign.cell) o) foreign.shown (shows.each foreign.cell foreign.inside))
+      by_row (row_at s foreign.cell) (subst (λ (o : Option Held). IsHeldAs (reads foreign.cell) (row_at s foreign.cell) o) foreign.shown
+      (shows.each foreign.cell foreign.inside))
     where
       by_row : (o : Option (ℕ × R)) → IsHeldAs (reads foreign.cell) o (Some foreign.held) → ⊥
       by_row None held = held
@@ -51,7 +52,8 @@ module _ {R : Type 0} (size cells : ℕ) (reads : ℕ → R → List ℕ → Typ
   intact IsSound g s nv long sound shows size_is damaged =
       let image = g.content nv in
       ⊎_elim (λ other. other size_is)
-      (λ wrong. ⊎_elim (λ (m : HasMixedCell size cells reads image). not_mixed 2 (slots_at size (m.cell * (2 * (5 + size))) image) m.mixed (shows.clear m.cell m.inside))
+      (λ wrong. ⊎_elim (λ (m : HasMixedCell size cells reads image). not_mixed 2 (slots_at size (m.cell * (2 * (5 + size))) image) m.mixed
+      (shows.clear m.cell m.inside))
       (λ rest. ⊎_elim (λ foreign. not_foreign s image shows foreign)
       (λ (b : BreaksTogether size cells reads IsSound image). b.breaks (subst IsSound (one_shown s b.rows image long b.long shows b.shows) sound)) rest)
       wrong.1)

@@ -30,7 +30,7 @@ pub record Table (S X : Type 0) : Type 1 where
   pub IsSound : RowList Row → Type 0
   -- the rows by what is kept, over cells that hold this
   pub kept : S → (ℕ → Option Held) → ℕ → Option Row
-  -- what else is kept follows from the cells
+  -- what is kept besides the rows follows from the cells
   pub Follows : S → (ℕ → Option Held) → Type 0
   pub one_follows : (m : S) (held : ℕ → Option Held) → IsProp (Follows m held)
 

@@ -1,4 +1,4 @@
--- That cells hold the rows that are kept, and what follows from it, each have one proof at most.
+-- There is at most one proof that cells hold the rows that are kept, and at most one of what follows from it.
 use Rattle.std.proofs.Common.{ℕ, Option}
 use Rattle.std.proofs.Props.{props}
 use Rattle.nv_store.specs.Slot.{Held}

@@ -1,4 +1,4 @@
--- Storage whose rows were read: damaged where they are foreign or do not agree, and intact where they agree.
+-- Storage after its rows were read: damaged if they are foreign or do not agree, and intact if they agree.
 use Rattle.std.proofs.Common.{◌≡◌, inl, inr, ℕ, ◌+◌, ◌*◌, List, length, Option, Some, refl, sym, ◌∙◌, subst}
 use Rattle.bench_base.specs.declared.refusals.BootFail.TheVariants.{Damaged}
 use Rattle.nv_model.specs.declared.nv.Nv.{Ghosts}

@@ -2,9 +2,7 @@
 use Rattle.std.proofs.Common.{subst, true≢false, ◌≡◌, ◌≢◌, ◌⊎◌, ◌↔◌, inl, inr, ℕ, ◌<◌, List, Option, Some, None, Result, Ok, Err, true, false, refl, sym, ◌∙◌, ap, arith, true≢false}
 use Rattle.std.specs.Prelude.{is_some, IsSome, IsErrOf, OnOk, OnErr}
 use Rattle.std.proofs.lemmas.Bool.{cases_eq}
-use Rattle.bench_base.specs.declared.refusals.StoreFail.{StoreFail}
-use Rattle.bench_base.specs.declared.refusals.StoreFail.TheVariants.{Worn}
-use Rattle.bench_base.specs.declared.sizes.TheConstants.{MOST_COMMITS}
+use Rattle.bench_base.specs.declared.{refusals.StoreFail.StoreFail, refusals.StoreFail.TheVariants.Worn, sizes.TheConstants.MOST_COMMITS}
 use Rattle.nv_store.specs.Slot.{Held}
 use Rattle.nv_model.specs.Moments.{Stays}
 use Rattle.nv_model.specs.declared.nv.Nv.{Ghosts}
@@ -28,7 +26,7 @@ module _ {R : Type 0} (decoded : ℕ → List ℕ → Option R) where
   filled_by k None read = tt
   filled_by k (Some h) read = filled_at k h (decoded k h.1) refl read
 
-  -- cells whose payloads read as rows hold these rows
+  -- cells with payloads that read as rows hold these rows
   pub filled_of : (cells : ℕ) (held : ℕ → Option Held) → AllRead decoded cells held → AreFilled cells (ReadsAs decoded) (λ k. row_held decoded k (held k)) held
   filled_of cells held read k lt = filled_by k (held k) (read k lt)
 

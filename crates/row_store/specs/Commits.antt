@@ -1,13 +1,15 @@
 -- What a commit of a row leaves.
 use Rattle.std.specs.Prelude.{◌≡◌, ◌↔◌, ◌⊎◌, ◌≤◌, ℕ, List, Option, true, Result, OnOk, OnErr, IsErrOf, is_ok}
-use Rattle.bench_base.specs.declared.refusals.StoreFail.{StoreFail}
-use Rattle.bench_base.specs.declared.refusals.StoreFail.TheVariants.{Power, Fault, Worn, Failed}
+use Rattle.bench_base.specs.declared.{refusals.StoreFail.StoreFail, refusals.StoreFail.TheVariants.Power, refusals.StoreFail.TheVariants.Fault, refusals.StoreFail.TheVariants.Worn, refusals.StoreFail.TheVariants.Failed}
 use Rattle.bench_base.specs.Causes.{Rose}
+use Rattle.nv_model.specs.declared.nv.Nv.{Ghosts}
 use Rattle.nv_model.specs.Meters.{Meters, WasCut, Uses}
 use Rattle.nv_model.specs.Moments.{Times, Elapses, Stays}
 use Rattle.nv_store.specs.Fills.{Fills, Told}
+use Rattle.nv_store.specs.RoomView.{cells_of, kept_in}
 use Rattle.nv_store.specs.Slot.{Held}
 use Rattle.nv_store.specs.Store.{UsesCommit}
+use Rattle.nv_store.specs.declared.room.Room.{Room}
 use Rattle.node_acts.specs.RowList.{RowList, is_worn, put}
 use Rattle.row_node.specs.Shows.{ShowsRows, row_fill}
 use Rattle.row_store.specs.Seen.{ReadsAs, seen_in}
@@ -20,7 +22,11 @@ pub record RowView : Type 1 where
   pub times : Times
   pub meters : Meters
 
--- what their storage tells
+-- the cells that a room keeps, over their storage
+abbrev pub rows_view : {N : Type 0} {L : ℕ} (g : Ghosts N) → N → Room L → RowView
+rows_view g nv room = record { cells = cells_of room; held = kept_in room; content = g.content nv; times = g.times nv; meters = g.meters nv }
+
+-- what their storage exposes
 abbrev pub told_in : RowView → Told
 told_in v = record { content = v.content; times = v.times; meters = v.meters }
 
@@ -28,10 +34,11 @@ told_in v = record { content = v.content; times = v.times; meters = v.meters }
 abbrev pub rows_in : {R : Type 0} → (ℕ → List ℕ → Option R) → RowView → RowList R
 rows_in decoded v = seen_in decoded v.cells v.held
 
--- A commit of a row to a cell: done, or found worn, or broken off. At every moment each image shows the rows before it or those after it. Unless the cell
--- is worn it fills the slot whose turn it is, with the one spelling of the row; and where it was made it used four calls or six. A worn cell's storage is not
--- called.
-pub record CommitsRow {R : Type 0} (tells : Type 0) (decoded : ℕ → List ℕ → Option R) (spelled : ℕ → R → List ℕ) (size cell : ℕ) (x : R) (old new : RowView) (result : Result (Unit {0}) StoreFail) : Type 0 where
+-- A commit of a row to a cell: done, or found worn, or broken off. At every moment each image shows the rows before it or
+-- those after it. Unless the cell is worn, it fills the next slot with the one spelling of the row. If it was made, it used
+-- four calls or six. A worn cell's storage is not called.
+pub record CommitsRow {R : Type 0} (tells : Type 0) (decoded : ℕ → List ℕ → Option R) (spelled : ℕ → R → List ℕ) (size cell : ℕ) (x : R)
+    (old new : RowView) (result : Result (Unit {0}) StoreFail) : Type 0 where
   pub done : OnOk result (rows_in decoded new ≡ put (rows_in decoded old) cell x)
   pub stays : OnErr result (rows_in decoded new ≡ rows_in decoded old)
   pub not_failed : IsErrOf result Failed → ⊥

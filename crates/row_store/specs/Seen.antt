@@ -19,7 +19,7 @@ module _ {R : Type 0} (row : ℕ → List ℕ → Option R) where
   IsRead k None = Unit {0}
   IsRead k (Some h) = IsSome (row k h.1)
 
-  -- so is each of the first cells
+  -- each of the first cells is blank or reads as a row
   abbrev pub AllRead : ℕ → (ℕ → Option Held) → Type 0
   AllRead cells held = (k : ℕ) → k < cells → IsRead k (held k)
 

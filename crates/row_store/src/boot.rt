@@ -53,8 +53,9 @@ fn fail_of(cause: MountCause) -> BootFail
     }
 }
 
-/// Reads the rows of so many cells, for which the memory is. Nothing is written, and no memory is taken. `Damaged` comes if and only if the
-/// size is not `2·(5+L)` bytes a cell, a cell is mixed, a payload reads as no row of its cell, or the rows do not agree.
+/// Reads the rows of so many cells, which are those of the memory. Nothing is written, and no memory is taken. `Damaged` is
+/// returned if and only if the size is not `2·(5+L)` bytes a cell, a cell is mixed, a payload reads as no row of its cell,
+/// or the rows do not agree.
 pub fn boot_rows<W: Rows<L>, N: Nv, const L: usize>(
     nv: &mut N,
     room: &mut Room<L>,

@@ -18,7 +18,7 @@ pub trait Rows<const L: usize> {
     /// The payload that is written for a row in a cell.
     ghost spelled: { ℕ → Self.Row → List ℕ };
 
-    /// The row may stand in this cell.
+    /// The row may be in this cell.
     ghost IsFit: { ℕ → Self.Row → Type 0 };
 
     /// The rows agree.

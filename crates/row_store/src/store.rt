@@ -26,9 +26,9 @@ pub fn row_in<W: Rows<L>, const L: usize>(room: &Room<L>, cell: u32) -> Option<W
     }
 }
 
-/// Commits a row to a cell: its payload goes to the slot whose turn it is, by four or six calls of the storage. Worn where the cell has
-/// 4,294,967,295 commits; otherwise Power and Fault, where the storage failed. The caller must not commit again once this answered Power or
-/// Fault.
+/// Commits a row to a cell: its payload goes to the next slot, by four or six calls of the storage. Worn is returned if the
+/// cell has 4,294,967,295 commits; otherwise Power or Fault if the storage failed. The caller must not commit again once
+/// this answered Power or Fault.
 pub fn commit_row<W: Rows<L>, N: Nv, const L: usize>(
     nv: &mut N,
     room: &mut Room<L>,

@@ -11,11 +11,11 @@ ghost use Rattle.script_replay.specs.Run.{Unforged, Moves};
 
 /// Steps, one after the other:
 ///
-/// - `moved`: what a run says of each event as long as none is forged, it says of all where none is;
-/// - `both`: what two parts of the steps do to a ledger one after the other, they do as one;
-/// - `stays`: a piece that was accepted stays so, whatever is done;
-/// - `scans`: where a scan of bytes among the steps was answered by an acceptance, the bytes are a released mark in the ledger after them all, whose
-///   piece was accepted under the number of the scan.
+/// - `moved`. What a run says of each event as long as none is forged, it says of all if none is forged.
+/// - `both`. What two parts of the steps do to a ledger one after the other, they do as one.
+/// - `stays`. A piece that was accepted stays accepted, whatever is done.
+/// - `scans`. If a scan of bytes among the steps was answered by an acceptance, the bytes are a released mark in the ledger after all
+///   steps. The piece of that mark was accepted under the number of the scan.
 pub fn trace()
     ensures moved { (τ : Tariff) (H : Ledger) (steps : List StepRecord) → AreUnforged τ Unforged H steps
         → RunWhile τ Unforged (Moves τ) H steps → AllMoved τ H steps }

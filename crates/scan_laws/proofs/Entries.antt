@@ -3,10 +3,7 @@ use Rattle.std.proofs.Common.{◌≡◌, ℕ, suc, ◌+◌, Bool, true, false, c
 use Rattle.std.proofs.lemmas.Bool.{eqb-true, and_parts}
 use Rattle.std.specs.Prelude.{◌==◌, ◌&&◌, All, Contains}
 use Rattle.std.proofs.lemmas.List.Elements.{All-cons, All-contains, All-weaker, All-contains_itself}
-use Rattle.bench_base.specs.declared.words.Node.{Node}
-use Rattle.bench_base.specs.declared.ledger.Commit.{Commit}
-use Rattle.bench_base.specs.declared.ledger.Commit.TheVariants.{Accepted}
-use Rattle.bench_base.specs.declared.ledger.Entry.{Entry}
+use Rattle.bench_base.specs.declared.{words.Node.Node, ledger.Commit.Commit, ledger.Commit.TheVariants.Accepted, ledger.Entry.Entry}
 use Rattle.bench_base.specs.declared.ledger.Entry.TheVariants as e
 use Rattle.bench_base.specs.Nodes.{same_node}
 use Rattle.bench_base.specs.Plans.{Plan}
@@ -125,7 +122,7 @@ module _ (P : ℕ → ℕ → ℕ → Type 0) where
     torn = λ m d p n is. all.torn m (Accepted d p n) is;
   }
 
-  -- what an entry has to bring
+  -- what an entry has to provide
   abbrev pub Brings : Entry → Type 0
   Brings (e.Commit c) = Is c
   Brings (e.Torn m c) = Is c

@@ -1,18 +1,9 @@
--- What the plan of each event tells; and which plans accept a piece: those of scans, under the number of the scan.
+-- What the plan of each event records; and which plans accept a piece: those of scans, under the number of the scan.
 use Rattle.std.proofs.Common.{◌≡◌, ℕ, ℤ, pos, ◌+◌, Bool, true, false, List, [], ◌∷◌, Option, Some, None, Result, Ok, Err, inl, inr, refl, subst, length, drop}
 use Rattle.std.specs.Prelude.{is_some, nat_lt}
-use Rattle.bench_base.specs.declared.words.Node.{Node}
-use Rattle.bench_base.specs.declared.words.Node.TheVariants.{Device, Centre, Host, Verifier}
-use Rattle.bench_base.specs.declared.refusals.MarkFault.{MarkFault}
-use Rattle.bench_base.specs.declared.refusals.RateRefusal.{RateRefusal}
-use Rattle.bench_base.specs.declared.refusals.ScanRefusal.{ScanRefusal}
-use Rattle.bench_base.specs.declared.ledger.Commit.{Commit}
-use Rattle.bench_base.specs.declared.ledger.Commit.TheVariants.{Accepted}
-use Rattle.bench_base.specs.declared.ledger.Entry.{Entry}
+use Rattle.bench_base.specs.declared.{words.Node.Node, words.Node.TheVariants.Device, words.Node.TheVariants.Centre, words.Node.TheVariants.Host, words.Node.TheVariants.Verifier, refusals.MarkFault.MarkFault, refusals.RateRefusal.RateRefusal, refusals.ScanRefusal.ScanRefusal, ledger.Commit.Commit, ledger.Commit.TheVariants.Accepted, ledger.Entry.Entry, events.Event.Event, events.Reply.Reply}
 use Rattle.bench_base.specs.declared.ledger.Entry.TheVariants as e
-use Rattle.bench_base.specs.declared.events.Event.{Event}
 use Rattle.bench_base.specs.declared.events.Event.TheVariants as ev
-use Rattle.bench_base.specs.declared.events.Reply.{Reply}
 use Rattle.bench_base.specs.declared.events.Reply.TheVariants as r
 use Rattle.bench_base.specs.Rules.{todays_rules}
 use Rattle.bench_base.specs.Nodes.{node_of}
@@ -21,9 +12,7 @@ use Rattle.bench_base.specs.Events.{needs_day}
 use Rattle.bench_base.specs.Cells.{is_worn}
 use Rattle.bench_base.specs.Ledger.{Ledger, day_in, rates_in, messages, message, is_on, counted}
 use Rattle.bench_base.specs.Scans.{trusted}
-use Rattle.node_acts.specs.declared.act.Act.{Act}
-use Rattle.node_acts.specs.declared.act.Act.TheVariants.{Refuse, Tell, Commits}
-use Rattle.node_acts.specs.declared.said.Said.{Said}
+use Rattle.node_acts.specs.declared.{act.Act.Act, act.Act.TheVariants.Refuse, act.Act.TheVariants.Tell, act.Act.TheVariants.Commits, said.Said.Said}
 use Rattle.node_acts.specs.Plans.{IsOfNode}
 use Rattle.node_acts.specs.Said.{tells, saying, said_plan}
 use Rattle.indicium.specs.declared.Mark.{Mark}
@@ -44,8 +33,7 @@ use Rattle.centre_ledger.proofs.Own.{open_own, flag_own, deposit_own, left_own, 
 use Rattle.host_jobs.specs.Acts.{HostAct, LookUps, order_by, debit_message_by, begin_print_by, close_by, take_by}
 use Rattle.host_jobs.specs.Plans as host
 use Rattle.host_jobs.proofs.Own.{order_own, send_own, print_own, close_own, take_own}
-use Rattle.verifier.specs.declared.acts.Accepted.{Accepted as ScannedPiece}
-use Rattle.verifier.specs.declared.acts.Spot.{Spot}
+use Rattle.verifier.specs.declared.{acts.Accepted.Accepted as ScannedPiece, acts.Spot.Spot}
 use Rattle.verifier.specs.Acts.{ScanAct, trusted_act, answered_act, marked_act, read_act}
 use Rattle.verifier.specs.Plans as scans
 use Rattle.ledger_moves.specs.Devices as device
@@ -79,7 +67,7 @@ unsaid m refusal say act own = said_commit _ refusal say act own
 
 -- Plans at this ledger, where P is known of each acceptance and a print is of this job
 module _ (P : ℕ → ℕ → ℕ → Type 0) (H : Ledger) (job : Option ℕ) where
-  -- it tells no more than it may, and commits nothing of which P is not known
+  -- it records no more than it may, and P is known of all that it commits
   pub record Clean (p : Plan) : Type 0 where
     pub says : Says H job p.reply p.after
     pub commits : CommitBrings P p.commit
@@ -88,7 +76,7 @@ module _ (P : ℕ → ℕ → ℕ → Type 0) (H : Ledger) (job : Option ℕ) wh
   sure : {p : Plan} → CommitBrings P p.commit → is_clean p.reply p.after ≡ true → Clean p
   sure commits is = record { says = cleanly H job _ _ is; commits = commits }
 
-  -- an act whose answers are said, of a node whose commits are no acceptances
+  -- an act with answers of type `Said`, of a node that commits no acceptances
   said_ok : {X F A : Type 0} (m : Node) (refusal : F → Reply) (say : A → Said) (act : Act X F A) → ((c : Commit) → node_of c ≡ m → Is P c) → IsOfNode m act → ((x : F) → is_clean (refusal x) [] ≡ true) → ((a : A) → is_clean (say a).reply (tells (say a)) ≡ true)
       → Clean (said_plan (saying refusal say act))
   said_ok m refusal say (Refuse x) brings own refused done = sure tt (refused x)
@@ -278,7 +266,7 @@ module _ (P : ℕ → ℕ → ℕ → Type 0) (H : Ledger) (job : Option ℕ) wh
     unfolding plan
     plan_clean x text own may = chosen Clean (needs_day x) _ _ (λ needs. dated_ok x text (day_in H) own may) (λ free. event_ok x text (pos 0) own may)
 
--- entries of which none is a commit accept nothing
+-- entries without commits accept nothing
 none_brings : (P : ℕ → ℕ → ℕ → Type 0) (l : List Entry) → NoCommits l → AllBring P l
 none_brings P [] none = tt
 none_brings P (e.Commit c ∷ l) none = absurd none

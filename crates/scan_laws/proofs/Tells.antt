@@ -1,17 +1,13 @@
--- What a plan tells beside its commit: entries that count nothing and open nothing, two at most; or an Up, with the count of the ledger.
+-- What a plan records beside its commit: entries that count nothing and open nothing, two at most; or an Up, with the count of the ledger.
 -- It answers no failure, and no print but one of a given job.
 use Rattle.std.proofs.Common.{◌≡◌, ℕ, List, [], ◌∷◌, Option, Some, None, Bool, true, false, true≢false, refl, sym, ◌∙◌, ap}
 use Rattle.std.specs.Prelude.{◌&&◌, not}
 use Rattle.std.proofs.lemmas.Bool.{and_parts}
 use Rattle.std.proofs.lemmas.Option.{same_Some, none-some}
-use Rattle.bench_base.specs.declared.words.Node.{Node}
-use Rattle.bench_base.specs.declared.ledger.Entry.{Entry}
+use Rattle.bench_base.specs.declared.{words.Node.Node, ledger.Entry.Entry, events.Event.Event, events.Reply.Reply, questions.Report.Report}
 use Rattle.bench_base.specs.declared.ledger.Entry.TheVariants as e
-use Rattle.bench_base.specs.declared.events.Event.{Event}
 use Rattle.bench_base.specs.declared.events.Event.TheVariants as ev
-use Rattle.bench_base.specs.declared.events.Reply.{Reply}
 use Rattle.bench_base.specs.declared.events.Reply.TheVariants as r
-use Rattle.bench_base.specs.declared.questions.Report.{Report}
 use Rattle.bench_base.specs.declared.questions.Report.TheVariants as report
 use Rattle.bench_base.specs.Ledger.{Ledger, count_of, counted}
 use Rattle.bench_base.specs.Replies.{ReplyClass, Did, Refused, Armed, CameOn, WentOff, LostPower, Faulted, WasDamaged, PrinterFailed, RatesFailed, class_of, report_of}
@@ -45,7 +41,7 @@ NoCommits (e.Commit c ∷ l) = ⊥
 NoCommits (e.Torn m c ∷ l) = ⊥
 NoCommits (_ ∷ l) = NoCommits l
 
--- what is told after a commit, by what the reply tells, and what an Up shows; of a failure nothing is asked, since nothing is told then
+-- what is recorded after a commit, by the class of the reply, and what an Up shows; a failure needs nothing, since nothing is recorded then
 abbrev pub ByTold : (Node → ℕ → Type 0) → ReplyClass → List Entry → Type 0
 ByTold Shows Did after = AreCalm after
 ByTold Shows Refused after = AreCalm after
@@ -105,7 +101,7 @@ abbrev is_print : Report → Bool
 is_print (report.Print j) = true
 is_print _ = false
 
--- an answer that is plain and prints nothing, with what is told after it
+-- an answer that is plain and prints nothing, with what is recorded after it
 abbrev pub is_clean : Reply → List Entry → Bool
 is_clean x after = is_plain (class_of x) && (are_calm after && not (is_print (report_of x)))
 
@@ -152,14 +148,14 @@ unfailing _ is = refl
 no_print : (x : Reply) (j : ℕ) → not (is_print (report_of x)) ≡ true → x ≡ r.Printed j → ⊥
 no_print x j is same = true≢false (sym is ∙ ap (λ (y : Reply). not (is_print (report_of y))) same)
 
--- == what is answered and told ==
+-- == what is answered and recorded ==
 
 module _ (H : Ledger) where
   -- it shows the count of the ledger
   abbrev pub ShowsItsCount : Node → ℕ → Type 0
   ShowsItsCount m k = k ≡ count_of m (counted H)
 
-  -- what an event answers that is to print this job, or none, and what is told after its commit
+  -- the answer of an event that is to print this job, or no job, and what is recorded after its commit
   pub record Says (o : Option ℕ) (reply : Reply) (after : List Entry) : Type 0 where
     pub told : ByTold ShowsItsCount (class_of reply) after
     pub none : NoCommits after

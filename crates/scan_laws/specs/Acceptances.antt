@@ -1,8 +1,6 @@
 -- The acceptances of a ledger: those that count, and those of commits that are open.
 use Rattle.std.specs.Prelude.{◌≡◌, ◌⊎◌, ℕ, List, Some, Ok, Contains}
-use Rattle.bench_base.specs.declared.words.Node.{Node}
-use Rattle.bench_base.specs.declared.ledger.Commit.TheVariants.{Accepted}
-use Rattle.bench_base.specs.declared.events.Event.{Event}
+use Rattle.bench_base.specs.declared.{words.Node.Node, ledger.Commit.TheVariants.Accepted, events.Event.Event}
 use Rattle.bench_base.specs.declared.events.Event.TheVariants as ev
 use Rattle.indicium.specs.declared.Mark.{Mark}
 use Rattle.indicium.specs.Marks.{read_mark}

@@ -1,10 +1,8 @@
 //! The laws of scans, as the contract of a function that takes and answers nothing.
 ghost use Rattle.std.specs.Prelude.{◌≡◌, ◌⊎◌, ℕ, List, Bool, Some, Ok, Contains};
-ghost use Rattle.bench_base.specs.declared.events.Event.{Event};
+ghost use Rattle.bench_base.specs.declared.{events.Event.Event, events.Reply.Reply, ledger.Commit.TheVariants.Accepted};
 ghost use Rattle.bench_base.specs.declared.events.Event.TheVariants as ev;
-ghost use Rattle.bench_base.specs.declared.events.Reply.{Reply};
 ghost use Rattle.bench_base.specs.declared.events.Reply.TheVariants as r;
-ghost use Rattle.bench_base.specs.declared.ledger.Commit.TheVariants.{Accepted};
 ghost use Rattle.bench_base.specs.Ledger.{Ledger, IsReleased, counted};
 ghost use Rattle.bench_base.specs.Rules.{todays_rules};
 ghost use Rattle.bench_base.specs.Scans.{accepted};
@@ -18,11 +16,11 @@ ghost use Rattle.scan_laws.specs.Acceptances.{EachAccepted, HasAccepted, IsScanO
 
 /// Scans and what they accept:
 ///
-/// - `others`: whatever reply an event gets, each acceptance after it, counted or open, was there before or is of its own scan;
-/// - `accepted`: where a scan of bytes is answered by an acceptance, now or again, the piece of their mark is accepted under the scan's
-///   number in the ledger after it, and the mark was released unless it is forged;
-/// - `postage`: a released mark shows the postage of the debit of its piece;
-/// - `once`: a piece is accepted under one number.
+/// - `others`. Whatever reply an event gets, each acceptance after it, counted or open, was there before or is of its own scan.
+/// - `accepted`. If a scan of bytes is answered by an acceptance, now or again, the piece of their mark is accepted under the scan's
+///   number in the ledger after it. The mark was released unless it is forged.
+/// - `postage`. A released mark shows the postage of the debit of its piece.
+/// - `once`. A piece is accepted under one number.
 pub fn scans()
     ensures others { (τ : Tariff) (H : Ledger) (x : Event) (text : List ℕ) (reply : Reply)
         → EachAccepted (λ d p n. HasAccepted H d p n ⊎ IsScanOf d p n x) (entries τ todays_rules H x text reply) }

@@ -12,12 +12,8 @@ use Rattle.script_check.specs.Checks as has
 use Rattle.script_check.specs.Checks.{Report, at_line, texts_of, LineHas, LinesHave, IsPassed, EndHas, Writes, Checks}
 use Rattle.script_check.specs.Texts.{line_text}
 use Rattle.script_check.specs.Turns.{LineSteps, LooksAt, LooksBehind, LooksOver, Passes, Ends, Steps, Progress}
-use Rattle.script_check.specs.declared.fault.Fault.{Fault}
+use Rattle.script_check.specs.declared.{fault.Fault.Fault, script.CheckFail.CheckFail, script.Checked.Checked, script.Step.Step, script.Step.TheVariants.On, script.Step.TheVariants.Over}
 use Rattle.script_check.specs.declared.fault.Fault.TheVariants as fault
-use Rattle.script_check.specs.declared.script.CheckFail.{CheckFail}
-use Rattle.script_check.specs.declared.script.Checked.{Checked}
-use Rattle.script_check.specs.declared.script.Step.{Step}
-use Rattle.script_check.specs.declared.script.Step.TheVariants.{On, Over}
 
 -- == what is written ==
 

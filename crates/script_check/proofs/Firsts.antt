@@ -35,7 +35,7 @@ begin_none : (k : Keyword) (prefix : List (List ℕ)) → (AreInPlace (first_for
     → BeginAnEvent (keyword_word k ∷ prefix) → ⊥
 begin_none k prefix n m b = none_begins prefix b.1 k n m b.0 b.2 b.3
 
--- behind a keyword, where one form takes so many words and the other no more
+-- after a keyword, if one form takes so many words and the other no more
 pub wrong_behind : (k : Keyword) (ws : List (List ℕ)) (first second most place : ℕ) → IsTaken (first_form k) ws first → IsTaken (second_form k) ws second
     → first ≤ most → second ≤ most → (most ≡ first) ⊎ (most ≡ second) → place ≡ most + 2 → IsFirstWrong place (keyword_word k ∷ ws)
 wrong_behind k ws first second most place one two le le' which is =

@@ -1,10 +1,8 @@
--- Words that fit the form behind a keyword are those of an event; words that stand at the first places of no form begin none.
+-- Words that fit the form after a keyword are those of an event; words that fit the first places of no form begin none.
 use Rattle.std.proofs.Common.{◌≡◌, ℕ, true, false, ◌⊎◌, List, [], ◌∷◌, refl, inl, inr, codes, ◌++◌, decimal}
-use Rattle.bench_base.specs.declared.words.Kind.TheVariants.{Enrol, Reset, Audit, Refund, Withdraw}
-use Rattle.bench_base.specs.declared.events.Event.{Event}
+use Rattle.bench_base.specs.declared.{words.Kind.TheVariants.Enrol, words.Kind.TheVariants.Reset, words.Kind.TheVariants.Audit, words.Kind.TheVariants.Refund, words.Kind.TheVariants.Withdraw, events.Event.Event, words.Kind.Kind}
 use Rattle.bench_base.specs.Ranges.{IsAsk, IsDevice}
 use Rattle.bench_base.specs.Events.{IsWholeEvent}
-use Rattle.bench_base.specs.declared.words.Kind.{Kind}
 use Rattle.bench_base.specs.declared.events.Event.TheVariants as ev
 use Rattle.script_text.specs.Grammar.{AreWordsOf, ask_words}
 use Rattle.script_text.specs.Keywords.{keyword_word}
@@ -22,7 +20,7 @@ use Rattle.script_check.proofs.InPlace.{Fits, prefix_of}
 abbrev pub AreAnEvents : List (List ℕ) → Type 0
 AreAnEvents ws = (e : Event) × IsWholeEvent e × AreWordsOf e ws
 
--- == the words of a form, one behind the other ==
+-- == the words of a form, one after the other ==
 
 none : (k : List ℕ) (ws : List (List ℕ)) → ws ≡ [] → k ∷ ws ≡ k ∷ []
 none k ws e = cc
@@ -124,13 +122,13 @@ made_second kw.Scan ws h = (
 )
 made_second k ws h = made_first k ws h
 
--- == words that stand at the first places of no form ==
+-- == words that fit the first places of no form ==
 
 behind : (v w : List ℕ) (vs ws : List (List ℕ)) → v ∷ vs ≡ w ∷ ws → vs ≡ ws
 behind v w vs ws e = cc
 
 module _ (prefix rest : List (List ℕ)) where
-  -- they do not stand at the first places behind this keyword, in one form or the other
+  -- they do not fit the first places after this keyword, in one form or the other
   abbrev NotFirst : Keyword → Type 0
   NotFirst k = AreInPlace (first_form k) prefix → ⊥
 

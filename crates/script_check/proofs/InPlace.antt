@@ -26,7 +26,7 @@ same_head v w vs ws e = cc
 same_tail : (v w : List ℕ) (vs ws : List (List ℕ)) → v ∷ vs ≡ w ∷ ws → vs ≡ ws
 same_tail v w vs ws e = cc
 
--- the first of words that fit stand at the first places
+-- the first of words that fit a form fit its first places
 pub prefix_of : (form : List Slot) (prefix rest : List (List ℕ)) → Fits form (prefix ++ rest) → AreInPlace form prefix
 prefix_of form [] rest h = tt
 prefix_of [] (w ∷ ws) rest h = absurd (cc h)
@@ -35,7 +35,7 @@ prefix_of (s ∷ form) (w ∷ ws) rest h = (
   prefix_of form ws rest (subst (λ (vs : List (List ℕ)). Fits form vs) (sym (same_tail w h.0 (ws ++ rest) h.1 h.2)) h.4),
 )
 
--- fewer words stand there too
+-- fewer words fit them too
 pub fewer : (form : List Slot) (n m : ℕ) (ws : List (List ℕ)) → n ≤ m → AreInPlace form (take m ws) → AreInPlace form (take n ws)
 fewer form zero m ws le h = tt
 fewer form (suc n) zero ws le h = absurd (omega (arith, le))

@@ -1,4 +1,4 @@
--- What stands at single places.
+-- What fits single places.
 use Rattle.std.proofs.Common.{◌≡◌, ◌↔◌, ℕ, ◌≤◌, ◌<◌, ◌^◌, List, Bool, IsTrue, sym, subst, arith, decimal}
 use Rattle.script_words.specs.Words.{byte_word}
 use Rattle.script_words.specs.declared.values.Byte.{Byte}

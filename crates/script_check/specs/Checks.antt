@@ -10,12 +10,7 @@ use Rattle.script_text.specs.Grammar.{IsSkipped, Spells}
 use Rattle.script_words.specs.Words.{words_in}
 use Rattle.script_check.specs.Texts.{line_text}
 use Rattle.script_check.specs.Wrong.{IsFirstWrong, IsWordAt, IsBehindAll}
-use Rattle.script_check.specs.declared.fault.Fault.{Fault}
-use Rattle.script_check.specs.declared.fault.Fault.TheVariants.{Word, Long, NoEnd, BehindEnd, NoLineEnd, TooLong}
-use Rattle.script_check.specs.declared.fault.WordFault.{WordFault}
-use Rattle.script_check.specs.declared.script.CheckFail.{CheckFail}
-use Rattle.script_check.specs.declared.script.CheckFail.TheVariants.{Read, Write}
-use Rattle.script_check.specs.declared.script.Checked.{Checked}
+use Rattle.script_check.specs.declared.{fault.Fault.Fault, fault.Fault.TheVariants.Word, fault.Fault.TheVariants.Long, fault.Fault.TheVariants.NoEnd, fault.Fault.TheVariants.BehindEnd, fault.Fault.TheVariants.NoLineEnd, fault.Fault.TheVariants.TooLong, fault.WordFault.WordFault, script.CheckFail.CheckFail, script.CheckFail.TheVariants.Read, script.CheckFail.TheVariants.Write, script.Checked.Checked}
 
 -- a fault, and the number of its line
 pub record Report : Type 0 where
@@ -25,7 +20,7 @@ pub record Report : Type 0 where
 abbrev pub at_line : ℕ → Fault → Report
 at_line number f = record { line = number; fault = f }
 
--- the lines in which these faults are written
+-- the lines that report these faults
 abbrev pub texts_of : List Report → List ℕ
 texts_of reports = flat_map (λ r. line_text r.line r.fault) reports
 
@@ -48,7 +43,7 @@ pub data LineHas (number : ℕ) (line : List ℕ) : List Report → Type 0 where
   event : IsEvent line → LineHas number line []
   wrong : (f : WordFault) → IsWrong line f → LineHas number line (at_line number (Word f) ∷ [])
 
--- what is wrong with these lines, of which the first has this number, in their order
+-- what is wrong with these lines, in their order; the first has this number
 abbrev pub LinesHave : ℕ → List (List ℕ) → List Report → Type 0
 LinesHave number [] reports = reports ≡ []
 LinesHave number (line ∷ lines) reports = (here later : List Report) × (reports ≡ here ++ later) × LineHas number line here × LinesHave (number + 1) lines later
@@ -61,7 +56,8 @@ pub record IsPassed (line : List ℕ) : Type 0 where
 
 -- == the end ==
 
--- What is wrong with the end of a script, which begins with the line of this number: these bytes were taken for it, and is_all says that the script has none after them.
+-- What is wrong with the end of a script, which begins with the line of this number: these bytes were taken for it, and is_all says that
+-- the script has none after them.
 pub data EndHas (number : ℕ) (is_all : Type 0) (bytes : List ℕ) : List Report → Type 0 where
   -- `end`, and nothing after it; or more
   ends : bytes ≡ ended (codes "end") → is_all → EndHas number is_all bytes []
@@ -90,12 +86,12 @@ pub record ScriptHas (is_all : Type 0) (bytes : List ℕ) (reports : List Report
   pub reports_are : reports ≡ before ++ last
   pub lines_are : lines ≡ min (length passed + 1) 1000000
 
--- These faults were written, and whether there are none.
+-- These faults were written, and `is_right` if and only if there is no fault.
 pub record Writes (reports : List Report) (is_right : Bool) (taken0 taken1 : Option (List ℕ)) : Type 0 where
   pub written : Appends taken0 taken1 (texts_of reports)
   pub right : IsTrue is_right ↔ (reports ≡ [])
 
--- WHAT A CHECK SAYS: just the faults of the script are written, in their order, and it is well-formed if and only if there are none.
+-- WHAT A CHECK SAYS: just the faults of the script are written, in their order, and it is well-formed if and only if it has no fault.
 pub record Checks (c : Checked) (left0 left1 taken0 taken1 : Option (List ℕ)) : Type 0 where
   pub bytes : List ℕ
   pub consumed : Consumes left0 left1 bytes

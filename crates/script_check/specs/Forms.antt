@@ -36,19 +36,19 @@ first_form kw.Scan = slot.Scan ∷ slot.Msg ∷ slot.Number ∷ []
 first_form kw.Reconcile = slot.Device ∷ []
 first_form kw.End = []
 
--- what may follow it as well; the same again, where there is nothing else
+-- the second form that may follow it; the first form again, if there is only one
 abbrev pub second_form : Keyword → List Slot
 second_form kw.Ask = slot.Device ∷ slot.Plain ∷ []
 second_form kw.Scan = slot.Scan ∷ slot.Hex ∷ slot.Bytes ∷ []
 second_form k = first_form k
 
--- the words stand at the first places of the form
+-- the words fit the first places of the form
 abbrev pub AreInPlace : List Slot → List (List ℕ) → Type 0
 AreInPlace form [] = Unit {0}
 AreInPlace [] (w ∷ ws) = ⊥
 AreInPlace (s ∷ form) (w ∷ ws) = Takes s w × AreInPlace form ws
 
--- so many of the words, from the first one on, stand at the first places of the form, and no more
+-- so many of the words, from the first one on, fit the first places of the form, and no more
 pub record IsTaken (form : List Slot) (ws : List (List ℕ)) (count : ℕ) : Type 0 where
   pub inside : count ≤ length ws
   pub are : AreInPlace form (take count ws)

@@ -2,7 +2,7 @@
 pub mod Checks
 pub mod Texts
 pub mod Wrong
--- Of this crate alone.
+-- For this crate alone.
 pub mod Forms
 pub mod Slots
 -- Bookkeeping: private calls and proofs alone name these.

@@ -1,4 +1,4 @@
--- What a word is at its place behind the first word of a line.
+-- What a word is at its place after the first word of a line.
 use Rattle.std.specs.Prelude.{◌≡◌, ℕ, ℤ, ◌<◌, ◌≤◌, ◌^◌, ◌⊎◌, List, codes, decimal}
 use Rattle.psd_audit.specs.Dates.{IsDateText}
 use Rattle.bench_base.specs.declared.words.Node.{Node}
@@ -7,7 +7,7 @@ use Rattle.script_words.specs.Words.{device_word, node_word, hex_word, byte_word
 use Rattle.script_check.specs.declared.slots.Slot.{Slot}
 use Rattle.script_check.specs.declared.slots.Slot.TheVariants as slot
 
--- the word may stand there
+-- the word may be at this place
 abbrev pub Takes : Slot → List ℕ → Type 0
 Takes slot.Date w = (t : ℤ) × IsDay t × IsDateText t w
 Takes slot.Device w = (d : ℕ) × IsDevice d × (w ≡ device_word d)

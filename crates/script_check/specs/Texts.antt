@@ -1,14 +1,10 @@
 -- The texts of faults.
 use Rattle.std.specs.Prelude.{ℕ, ◌/◌, ◌%◌, Bool, false, ◌&&◌, nat_le, nat_lt, ◌==◌, if◌then◌else◌, List, [], ◌∷◌, ◌++◌, length, take, flat_map, codes, decimal, Option, Some, None, option_map}
 use Rattle.std.specs.Fmt.{digit_glyph}
-use Rattle.script_check.specs.declared.fault.Fault.{Fault}
+use Rattle.script_check.specs.declared.{fault.Fault.Fault, fault.Hint.Hint, fault.Wanted.Wanted, fault.WordFault.WordFault, slots.Slot.Slot}
 use Rattle.script_check.specs.declared.fault.Fault.TheVariants as fault
-use Rattle.script_check.specs.declared.fault.Hint.{Hint}
 use Rattle.script_check.specs.declared.fault.Hint.TheVariants as hint
-use Rattle.script_check.specs.declared.fault.Wanted.{Wanted}
 use Rattle.script_check.specs.declared.fault.Wanted.TheVariants as wanted
-use Rattle.script_check.specs.declared.fault.WordFault.{WordFault}
-use Rattle.script_check.specs.declared.slots.Slot.{Slot}
 use Rattle.script_check.specs.declared.slots.Slot.TheVariants as slot
 
 -- == a word as it is shown ==

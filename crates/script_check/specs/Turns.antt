@@ -4,9 +4,7 @@ use Rattle.std.specs.List.{AllByRecursion}
 use Rattle.std.specs.Io.KnownBytes.{Consumes, IsAtEnd}
 use Rattle.line_runs.specs.Lines.{ended}
 use Rattle.script_check.specs.Checks.{Report, at_line, LineHas, LinesHave, IsPassed, EndHas, Writes}
-use Rattle.script_check.specs.declared.fault.Fault.TheVariants.{NoEnd, BehindEnd, NoLineEnd}
-use Rattle.script_check.specs.declared.script.Step.{Step}
-use Rattle.script_check.specs.declared.script.Step.TheVariants.{On, Over}
+use Rattle.script_check.specs.declared.{fault.Fault.TheVariants.NoEnd, fault.Fault.TheVariants.BehindEnd, fault.Fault.TheVariants.NoLineEnd, script.Step.Step, script.Step.TheVariants.On, script.Step.TheVariants.Over}
 
 -- the line of this number was looked at
 pub record LooksAt (number : ℕ) (line : List ℕ) (is_right : Bool) (taken0 taken1 : Option (List ℕ)) : Type 0 where

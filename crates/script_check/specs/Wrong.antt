@@ -19,6 +19,6 @@ pub record IsFirstWrong (place : ℕ) (ws : List (List ℕ)) : Type 0 where
 abbrev pub IsWordAt : ℕ → List (List ℕ) → List ℕ → Type 0
 IsWordAt place ws w = slice_get ws (place - 1) ≡ Some w
 
--- no word is there: the place is the one behind the last word
+-- no word is there: the place is the one after the last word
 abbrev pub IsBehindAll : ℕ → List (List ℕ) → Type 0
 IsBehindAll place ws = slice_get ws (place - 1) ≡ None

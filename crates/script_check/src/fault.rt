@@ -17,7 +17,7 @@ pub enum Wanted {
     End,
 }
 
-/// Why a word is none that looks like one.
+/// Why a word is not valid although it looks so.
 #[derive(Clone, Copy, Debug, PartialEq, Eq)]
 pub enum Hint {
     /// Nothing is known of it.
@@ -26,7 +26,7 @@ pub enum Hint {
     CarriageReturn,
     /// It begins with the bytes ef bb bf, as files of some editors do.
     ByteOrderMark,
-    /// It is empty: a space stands before the line, behind it, or beside another one.
+    /// It is empty: a space is before the line, after it, or beside another one.
     Space,
     /// It has a byte 9.
     Tab,
@@ -43,7 +43,7 @@ pub struct WordFault<'a> {
     pub place: usize,
     /// The word; None if the line ends before it.
     pub found: Option<&'a [u8]>,
-    /// What events have there, behind the words before it.
+    /// What events have there, given the words before it.
     pub wanted: Wanted,
     pub hint: Hint,
 }

@@ -38,7 +38,7 @@ pub fn form_behind(keyword: Keyword) -> &'static [Slot]
     }
 }
 
-/// What may follow the keyword as well; the same again, where there is nothing else.
+/// The second form that may follow the keyword; the first form again, if there is only one.
 pub fn form_beside(keyword: Keyword) -> &'static [Slot]
     ensures { result.now ≡ second_form keyword }
 {

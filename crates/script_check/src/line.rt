@@ -13,7 +13,7 @@ use crate::slots::Slot;
 use script_text::{Keyword, read_event, read_keyword};
 use script_words::split_word;
 
-// The word behind so many others.
+// The word after so many others.
 fn word_behind(count: usize, words: &[u8]) -> Option<&[u8]>
     ensures { MatchOption result (slice_get (words_in words.now) count ≡ None) (λ w. slice_get (words_in words.now) count ≡ Some w.now) }
 {
@@ -76,7 +76,7 @@ fn wanted_of(slot: Option<&Slot>, other: Option<&Slot>) -> Wanted {
     }
 }
 
-// What may follow so many words behind the keyword, by the forms that take them.
+// What may follow so many words after the keyword, by the forms that take them.
 fn wanted_behind(keyword: Keyword, count: usize, first: usize, second: usize) -> Wanted {
     let form = form_behind(keyword);
     let beside = form_beside(keyword);
@@ -113,7 +113,7 @@ fn greater(first: usize, second: usize) -> usize
     if first < second { second } else { first }
 }
 
-// The first word behind the keyword that no event has there.
+// The first word after the keyword that no event has there.
 fn first_behind(keyword: Keyword, rest: &[u8]) -> WordFault<'_>
     ensures first { IsFirstWrong result.place (keyword_word keyword ∷ words_in rest.now) }
     ensures found { MatchOption result.found (IsBehindAll result.place (keyword_word keyword ∷ words_in rest.now))
@@ -129,7 +129,7 @@ fn first_behind(keyword: Keyword, rest: &[u8]) -> WordFault<'_>
     )
 }
 
-// The first word of a line of one word, or the one that is missing behind it.
+// The first word of a line of one word, or the one that is missing after it.
 fn first_alone(word: &[u8]) -> WordFault<'_>
     ensures first { IsFirstWrong result.place (word.now ∷ []) }
     ensures found { MatchOption result.found (IsBehindAll result.place (word.now ∷ [])) (λ w. IsWordAt result.place (word.now ∷ []) w.now) }
@@ -155,7 +155,7 @@ fn first_wrong(line: &[u8]) -> WordFault<'_>
 }
 
 /// What is wrong with a line; None if and only if the line is that of an event. Otherwise the place is that of the first word that no event has there,
-/// behind the words before it.
+/// given the words before it.
 ///
 /// The line comes without its line end. An empty line, and one that begins with `#`, are no event, though a run skips them.
 pub fn check_line(line: &[u8]) -> Option<WordFault<'_>>

@@ -5,9 +5,7 @@ ghost use Rattle.bench_base.specs.Causes.{Rose};
 ghost use Rattle.script_check.specs.Checks.{Checks, FailsSo};
 ghost use Rattle.script_check.specs.Texts.{line_text};
 ghost use Rattle.script_check.specs.Turns.{LineSteps, LooksAt, LooksBehind, LooksOver, Steps};
-ghost use Rattle.script_check.specs.declared.fault.Fault.{Fault};
-ghost use Rattle.script_check.specs.declared.script.CheckFail.{CheckFail};
-ghost use Rattle.script_check.specs.declared.script.Step.{Step};
+ghost use Rattle.script_check.specs.declared.{fault.Fault.Fault, script.CheckFail.CheckFail, script.Step.Step};
 
 use crate::fault::Fault;
 use crate::line::check_line;
@@ -261,10 +259,10 @@ fn both(one: bool, other: bool) -> bool
     one && other
 }
 
-/// Looks at each line of a script, up to its `end`, and writes each fault as a line: `line N: ` and its text, N counted from 1.
+/// Looks at each line of a script, up to its `end`. Writes each fault as a line: `line N: ` and its text, N counted from 1.
 ///
-/// Behind a line of more than 600 bytes, and behind a million lines, nothing is looked at. `Read` comes only if the script's count of faults rose,
-/// `Write` only if that of the sink did; what was written until then stays.
+/// Nothing is looked at after a line of more than 600 bytes, nor after a million lines. `Read` is returned only if the script's
+/// count of faults rose, and `Write` only if that of the sink did. What was written until then stays.
 pub fn check_script<S: BufSource, K: Sink>(
     alloc: Global,
     script: &mut S,

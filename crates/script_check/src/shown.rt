@@ -9,7 +9,7 @@ use std::fmt;
 /// The most bytes of a word that are shown.
 const MOST: usize = 40;
 
-/// A word between quotes. A byte that is no printable ASCII is `\xNN`, a backslash is two, and what is behind 40 bytes is left out.
+/// A word between quotes. A byte that is no printable ASCII is `\xNN`, a backslash is two, and what follows 40 bytes is left out.
 #[derive(Clone, Copy)]
 pub struct Shown<'a>(pub &'a [u8]);
 

@@ -1,4 +1,4 @@
-//! What a word has to be at its place, behind the first word of a line.
+//! What a word has to be at its place, after the first word of a line.
 ghost use Rattle.std.specs.Prelude.{◌≡◌, ◌↔◌, ◌≤◌, ◌<◌, ◌^◌, ◌⊎◌, ℕ, codes, decimal, IsTrue};
 ghost use Rattle.bench_base.specs.Ranges.{TakesBytes};
 ghost use Rattle.bench_base.specs.declared.words.Node.{Node as TheNode};
@@ -104,7 +104,7 @@ fn is_plain(word: &[u8]) -> bool
     is_text(word, b"audit") || is_text(word, b"refund") || is_text(word, b"withdraw")
 }
 
-/// Whether the word may stand there.
+/// Whether the word may be at this place.
 pub fn takes(slot: Slot, word: &[u8]) -> bool
     ensures { IsTrue result ↔ Takes slot word.now }
 {

@@ -1,16 +1,14 @@
 -- What a run did, by the words that the program was called with.
 use Rattle.std.proofs.Common.{◌≡◌, ℕ, List, [], Option, Some, sym, ◌∙◌, subst}
-use Rattle.script_text.specs.declared.program.Words.{Words}
-use Rattle.script_text.specs.declared.program.Words.TheVariants.{Replay, Generate}
+use Rattle.script_text.specs.declared.{program.Words.Words, program.Words.TheVariants.Replay, program.Words.TheVariants.Generate}
 use Rattle.script_text.specs.Programs.{program_words, AreInRange}
 use Rattle.line_extensions.specs.Trace.{StepRecord, done_in}
 use Rattle.script_replay.specs.Generated.{Generated}
 use Rattle.line_runs.specs.Runs.{Replayed}
 use Rattle.line_extensions.specs.Scripts.{script_lines}
 use Rattle.script_replay.specs.Streams.{Streams, AreNone, Ran}
-use Rattle.line_runs.specs.declared.status.Status.{Status}
+use Rattle.line_runs.specs.declared.{status.Status.Status, status.SideStatus.TheVariants.Run}
 use Rattle.line_runs.proofs.Turns.{said}
-use Rattle.line_runs.specs.declared.status.SideStatus.TheVariants.{Run}
 
 -- the words call for one thing
 pub apart : (seed count : ℕ) → program_words Replay ≡ program_words (Generate seed count) → ⊥

@@ -1,4 +1,4 @@
--- Steps of a bench, one list after another; and by every history for which it stands.
+-- Steps of a bench, one list after another; and by every history that it represents.
 use Rattle.std.proofs.Common.{List, [], ◌∷◌, refl, sym, subst}
 use Rattle.bench_base.specs.declared.events.Reply.{Reply}
 use Rattle.bench_base.specs.Ledger.{Ledger}

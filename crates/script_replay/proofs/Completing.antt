@@ -9,9 +9,8 @@ use Rattle.line_extensions.specs.Scripts.{script_grammar, script_lines}
 use Rattle.line_runs.specs.Ends.{EndsAs, IsByScript}
 use Rattle.line_runs.specs.Runs.{Replayed}
 use Rattle.script_replay.specs.Streams.{Streams, Ran, Completes}
-use Rattle.line_runs.specs.declared.status.Status.{Status}
+use Rattle.line_runs.specs.declared.{status.Status.Status, status.SideStatus.TheVariants.Run}
 use Rattle.line_runs.specs.declared.status.Status.TheVariants as status
-use Rattle.line_runs.specs.declared.status.SideStatus.TheVariants.{Run}
 use Rattle.line_runs.proofs.EndLaws as lines
 
 done_or_cut : (outcome : Status) (text line : List ℕ) → EndsWith outcome text line → (outcome ≡ status.WriteFault → ⊥) → outcome ≡ status.Done

@@ -1,13 +1,10 @@
--- How often a storage's failures are told: of one event, and of steps one after another.
+-- How often a storage's failures are reported: by one event, and by steps one after another.
 use Rattle.std.proofs.Common.{◌≡◌, ◌⊎◌, inl, inr, ℕ, ◌+◌, ◌-◌, ◌<◌, ◌≤◌, ◌^◌, List, [], ◌∷◌, length, get_or, Bool, true, false, Option, Some, None, refl, sym, ap, subst, arith}
 use Rattle.std.specs.Prelude.{IsSome, IsNone, slice_get}
 use Rattle.std.proofs.lemmas.Option.{slice_get-get_or, slice_get_within}
 use Rattle.bench_base.specs.Causes.{Rose}
-use Rattle.bench_base.specs.declared.events.Event.{Event}
-use Rattle.bench_base.specs.declared.events.Reply.{Reply}
+use Rattle.bench_base.specs.declared.{events.Event.Event, events.Reply.Reply, words.Node.Node, words.Node.TheVariants.Device, words.Node.TheVariants.Centre, words.Node.TheVariants.Host, words.Node.TheVariants.Verifier}
 use Rattle.bench_base.specs.declared.events.Reply.TheVariants as r
-use Rattle.bench_base.specs.declared.words.Node.{Node}
-use Rattle.bench_base.specs.declared.words.Node.TheVariants.{Device, Centre, Host, Verifier}
 use Rattle.bench_base.specs.Events.{calls_of}
 use Rattle.bench_base.specs.Replies.{tells_power, tells_fault, tells_cut, MayGet, tells_printer, tells_rates}
 use Rattle.nv_model.specs.Meters.{Meters, Uses}
@@ -26,8 +23,7 @@ use Rattle.script_replay.specs.Counts.{BalancedAt, AreBalanced, FaultsTold}
 use Rattle.line_extensions.specs.Trace.{StepRecord}
 use Rattle.script_replay.specs.Run.{Leaves}
 use Rattle.line_runs.specs.declared.status.Status.TheVariants as status
-use Rattle.line_runs.specs.declared.status.SideStatus.{SideStatus}
-use Rattle.line_runs.specs.declared.status.SideStatus.TheVariants.{Run, Stopped}
+use Rattle.line_runs.specs.declared.{status.SideStatus.SideStatus, status.SideStatus.TheVariants.Run, status.SideStatus.TheVariants.Stopped}
 use Rattle.script_replay.proofs.Faults.{none_told, more_told, told_still, printer_told, rates_told}
 
 -- == one event ==
@@ -53,7 +49,7 @@ none_cut : (calls before now : ℕ) (f h : Option ℕ) → before ≤ now → Us
 none_cut calls before now f h le uses = let s = stays calls f h uses in omega arith
 
 module _ (d : Node) (e : Event) (reply : Reply) (was is : Meters) (c : Charged d e reply was is) where
-  -- a reply tells of no cut where it tells of a power failure
+  -- a reply reports no cut if it reports a power failure
   power_by : (p k : Bool) → tells_power d reply ≡ p → tells_cut d reply ≡ k → (p ≡ true → k ≡ false) → is.cuts < 2 ^ 64 - 1
       → was.cuts + (one_if p + armed is.fuse) ≤ is.cuts + (one_if k + armed was.fuse)
   power_by true true hp hk apart few = cc (apart refl)
@@ -65,7 +61,7 @@ module _ (d : Node) (e : Event) (reply : Reply) (was is : Meters) (c : Charged d
   fault_by true h few = let rose = c.fault h in omega (arith, rose, few)
   fault_by false h few = let rise = c.faults in omega (arith, rise)
 
--- no reply tells of both
+-- no reply reports both
 apart : (d : Node) (reply : Reply) → tells_power d reply ≡ true → tells_cut d reply ≡ false
 apart d (r.Power n) h = refl
 apart d (r.CutSet n) h = cc

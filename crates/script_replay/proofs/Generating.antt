@@ -4,12 +4,9 @@ use Rattle.std.specs.List.{AllByRecursion}
 use Rattle.std.specs.Prelude.{slice_get}
 use Rattle.std.specs.Io.KnownBytes.{Appends}
 use Rattle.std.proofs.lemmas.List.{length-append, length-map}
-use Rattle.bench_base.specs.declared.events.Event.{Event}
+use Rattle.bench_base.specs.declared.{events.Event.Event, events.Reply.Reply, questions.Brought.Brought, questions.Brought.TheVariants.Nothing, questions.Brought.TheVariants.Handed, questions.Brought.TheVariants.Scanned}
 use Rattle.bench_base.specs.declared.events.Event.TheVariants as ev
-use Rattle.bench_base.specs.declared.events.Reply.{Reply}
 use Rattle.bench_base.specs.declared.events.Reply.TheVariants as r
-use Rattle.bench_base.specs.declared.questions.Brought.{Brought}
-use Rattle.bench_base.specs.declared.questions.Brought.TheVariants.{Nothing, Handed, Scanned}
 use Rattle.bench_base.specs.Ledger.{Ledger}
 use Rattle.bench_base.specs.Replies.{MayGet}
 use Rattle.node_turns.specs.Printing.{Printer}
@@ -30,10 +27,8 @@ use Rattle.script_replay.specs.Trace.{ledger_by, AreUnforged}
 use Rattle.script_replay.specs.Generated.{events_of, replies_of, summary_line, EndsWith, InTheMidst, Generated}
 use Rattle.script_replay.specs.Run.{Unforged}
 use Rattle.line_runs.specs.Turns.{AreDone, Ended}
-use Rattle.line_runs.specs.declared.status.Status.{Status}
+use Rattle.line_runs.specs.declared.{status.Status.Status, status.SideStatus.SideStatus, status.SideStatus.TheVariants.Run}
 use Rattle.line_runs.specs.declared.status.Status.TheVariants as status
-use Rattle.line_runs.specs.declared.status.SideStatus.{SideStatus}
-use Rattle.line_runs.specs.declared.status.SideStatus.TheVariants.{Run}
 use Rattle.script_replay.proofs.Faults.{given_as}
 
 -- == one event more ==
@@ -122,7 +117,7 @@ one_event column.Released = refl
 one_event column.Accepted = refl
 one_event column.Uncounted = refl
 
--- the tally tells how many replies there were
+-- the tally shows how many replies there were
 pub tally_events : (replies : List Reply) → (tally_of replies).events ≡ length replies
 tally_events [] = refl
 tally_events (reply ∷ rest) = let more = tally_events rest in let one = one_event (column_of reply) in omega (arith, more, one)
@@ -170,7 +165,7 @@ module _ (n : Nodes) where
       let printer : mid.outside.printer ≡ old.outside.printer = printer_rests old mid d did.1 each.0 in
       streams_rest mid new rest did.2 each.1 ∙ outside_same old.outside mid.outside rates printer
 
-  -- of a run of which nothing is to come
+  -- of a run with nothing to come
   pub all_rest : (seed count : ℕ) (to_come : List Event) (tally : Tally) (old new : SceneOf n) → InTheMidst (DidEvents n) seed count to_come tally old new → to_come ≡ []
       → AllByRecursion NeedsNoStream (generated seed count) → new.outside ≡ old.outside
   all_rest seed count to_come tally old new midst is each = streams_rest old new midst.done midst.did (all_of NeedsNoStream (events_of midst.done) to_come (subst (AllByRecursion NeedsNoStream) (sym midst.all) each))

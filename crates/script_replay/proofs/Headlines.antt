@@ -6,8 +6,7 @@ use Rattle.bench.specs.Benches.{Nodes, BenchOf}
 use Rattle.line_extensions.specs.Trace.{StepRecord, done_in}
 use Rattle.line_extensions.specs.Scripts.{script_lines}
 use Rattle.line_runs.proofs.Turns.{said}
-use Rattle.line_runs.specs.declared.status.Status.{Status}
-use Rattle.line_runs.specs.declared.status.SideStatus.TheVariants.{Run}
+use Rattle.line_runs.specs.declared.{status.Status.Status, status.SideStatus.TheVariants.Run}
 use Rattle.script_replay.specs.Chains.{SceneOf, scene}
 use Rattle.script_replay.specs.Fresh.{DidFresh, RanFresh}
 use Rattle.script_replay.specs.Headline.{AreMade, Headline}

@@ -1,11 +1,10 @@
--- A run with a desk from nothing.
+-- A run with an extension from nothing.
 use Rattle.std.proofs.Common.{ℕ, List, []}
 use Rattle.bench.specs.Benches.{Nodes, Stands}
 use Rattle.ledger_moves.specs.Histories.{History}
 use Rattle.ledger_moves.specs.Tariffs.{Tariff}
 use Rattle.line_runs.proofs.Turns.{said}
-use Rattle.line_runs.specs.declared.status.Status.{Status}
-use Rattle.line_runs.specs.declared.status.SideStatus.{SideStatus}
+use Rattle.line_runs.specs.declared.{status.Status.Status, status.SideStatus.SideStatus}
 use Rattle.line_extensions.specs.Trace.{StepRecord}
 use Rattle.line_extensions.specs.Desks.{side_lines}
 use Rattle.line_extensions.specs.SideTrace.{SideStep}

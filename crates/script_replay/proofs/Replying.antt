@@ -1,9 +1,8 @@
--- What the bench told of one event, and what that says of its streams.
+-- What the bench reported of one event, and what that says of its streams.
 use Rattle.std.proofs.Common.{◌≡◌, ℕ, List, Result, Ok, Err, refl, sym, subst}
 use Rattle.std.specs.Prelude.{IfOk, OnErr}
-use Rattle.bench_base.specs.declared.events.Event.{Event}
+use Rattle.bench_base.specs.declared.{events.Event.Event, events.Reply.Reply}
 use Rattle.bench_base.specs.declared.events.Event.TheVariants as ev
-use Rattle.bench_base.specs.declared.events.Reply.{Reply}
 use Rattle.node_turns.specs.declared.turn.Turn.{Turn}
 use Rattle.node_turns.specs.Printing.{PrinterDid}
 use Rattle.bench.specs.Benches.{Bench, Nodes, IsReady, BenchOf}
@@ -41,7 +40,7 @@ module _ (n : Nodes)
   replied (Ok reply) ready did = let x = did_by ready reply did.0 did.1 did.2 did.3 in (did.0, x.0, x.1)
   replied (Err fail) ready did = did
 
-  -- the same, told to a desk
+  -- the same, reported to an extension
   pub stepped : {A E : Type 0} (IsOf : A → Turn → Type 0) (result : Result A E) → IsReady new → IfOk result (λ told. (text : List ℕ) × (turn : Turn) × IsOf told turn × Steps n e text turn old new before now)
       → IfOk result (λ told. (d : StepRecord) × (turn : Turn) × (d.event ≡ e) × StepsBy n (scene old before) (scene new now) d turn × IsOf told turn)
   stepped IsOf (Err fail) ready did = did

@@ -19,8 +19,7 @@ use Rattle.script_replay.specs.Fresh.{DidFresh}
 use Rattle.script_replay.specs.Run.{Unforged, Leaves, DidOver, DidRun}
 use Rattle.script_replay.specs.Throughout.{StandsFor}
 use Rattle.line_runs.specs.Turns.{Ended}
-use Rattle.line_runs.specs.declared.status.Status.{Status}
-use Rattle.line_runs.specs.declared.status.SideStatus.TheVariants.{Run}
+use Rattle.line_runs.specs.declared.{status.Status.Status, status.SideStatus.TheVariants.Run}
 use Rattle.script_replay.proofs.Answering.{no_failure, all_answered, all_exact}
 use Rattle.script_replay.proofs.Chains.{runs, sane_while, stands_after}
 use Rattle.script_replay.proofs.Counting.{LeftSo, left_so, run_balanced}

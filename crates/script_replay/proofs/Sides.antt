@@ -1,4 +1,4 @@
--- What a run with a desk did, by what the desk and the bench did of its lines.
+-- What a run with an extension did, by what the extension and the bench did of its lines.
 use Rattle.std.proofs.Common.{◌≡◌, ℕ, List, [], ◌∷◌, Option, None, subst}
 use Rattle.bench_base.specs.declared.ledger.Entry.TheVariants.{Begin}
 use Rattle.bench_base.specs.Ledger.{Ledger}
@@ -11,8 +11,7 @@ use Rattle.line_runs.specs.Trace.{Lines}
 use Rattle.line_runs.specs.Runs.{Replayed}
 use Rattle.line_runs.specs.Turns.{Ended}
 use Rattle.line_runs.specs.declared.status.Status.TheVariants as status
-use Rattle.line_runs.specs.declared.status.SideStatus.{SideStatus}
-use Rattle.line_runs.specs.declared.status.SideStatus.TheVariants.{Run}
+use Rattle.line_runs.specs.declared.{status.SideStatus.SideStatus, status.SideStatus.TheVariants.Run}
 use Rattle.line_extensions.specs.Desks.{World, world, SideLeaves, Does}
 use Rattle.line_extensions.specs.DeskLaws.{bench_part}
 use Rattle.line_extensions.specs.SideTrace.{SideStep, steps_of}

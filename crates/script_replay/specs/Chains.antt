@@ -37,7 +37,7 @@ abbrev pub scene_of : {R P M N : Type 0} {g : nv.Ghosts M} â†’ source.Ghosts R â
 scene_of r p bench rates printer = scene (bench_of bench) (outside r rates p printer)
 
 module _ (n : Nodes) where
-  -- the bench did one event by a step, told its reply, took this text of the rates and printed this
+  -- the bench did one event by a step, gave its reply, took this text of the rates and printed this
   pub record DidEvent (old new : SceneOf n) (d : StepRecord) : Type 0 where
     pub ready : IsReady new.bench
     pub turn : Turn

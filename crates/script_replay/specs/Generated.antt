@@ -1,8 +1,7 @@
 -- A generated run: its events, and its summary.
 use Rattle.std.specs.Prelude.{◌≡◌, ℕ, List, ◌++◌, Option, map}
 use Rattle.std.specs.Io.KnownBytes.{Appends}
-use Rattle.bench_base.specs.declared.events.Event.{Event}
-use Rattle.bench_base.specs.declared.events.Reply.{Reply}
+use Rattle.bench_base.specs.declared.{events.Event.Event, events.Reply.Reply}
 use Rattle.bench_base.specs.Ledger.{Ledger}
 use Rattle.ledger_moves.specs.Tariffs.{Tariff}
 use Rattle.script_text.specs.Summaries.{Tally, tally_of, summary_text}
@@ -35,13 +34,14 @@ EndsWith status.Memory text line = ⊥
 EndsWith status.TooLong text line = ⊥
 
 -- So far these events were done, and these are still to come; the tally is that of the replies.
-pub record InTheMidst {B : Type 0} (Does : B → B → List StepRecord → Type 0) (seed count : ℕ) (to_come : List Event) (tally : Tally) (old new : B) : Type 0 where
+pub record InTheMidst {B : Type 0} (Does : B → B → List StepRecord → Type 0) (seed count : ℕ) (to_come : List Event) (tally : Tally)
+    (old new : B) : Type 0 where
   pub done : List StepRecord
   pub all : events_of done ++ to_come ≡ generated seed count
   pub did : Does old new done
   pub tally_is : tally ≡ tally_of (replies_of done)
 
--- All events of the run were done, none of which brings anything that is forged, and then the report took the summary of the replies.
+-- All events of the run were done, and none of them contains anything that is forged. Then the report took the summary of the replies.
 pub record Generated (outcome : Status) (seed count : ℕ) (WasDone : List StepRecord → Type 0) (taken0 taken1 : Option (List ℕ)) : Type 0 where
   pub done : List StepRecord
   pub all : events_of done ≡ generated seed count

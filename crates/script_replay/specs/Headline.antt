@@ -11,17 +11,15 @@ use Rattle.line_extensions.specs.Trace.{StepRecord, done_in}
 use Rattle.line_extensions.specs.Scripts.{script_grammar, script_lines}
 use Rattle.line_runs.specs.Ends.{EndsAs, IsByScript}
 use Rattle.line_runs.specs.Runs.{Replayed}
-use Rattle.line_runs.specs.declared.status.Status.{Status}
-use Rattle.line_runs.specs.declared.status.Status.TheVariants.{ReadFault, WriteFault}
-use Rattle.line_runs.specs.declared.status.SideStatus.TheVariants.{Run}
+use Rattle.line_runs.specs.declared.{status.Status.Status, status.Status.TheVariants.ReadFault, status.Status.TheVariants.WriteFault, status.SideStatus.TheVariants.Run}
 use Rattle.script_replay.specs.Trace.{ledger_after, printed_of, RunWhile, AreUnforged}
 use Rattle.script_replay.specs.Run.{Unforged, Moves, Prints}
 use Rattle.script_replay.specs.Streams.{Streams}
 use Rattle.script_replay.specs.Throughout.{IsAllPaid}
 
--- The steps are right from the empty ledger on, by what this tariff reads in rates. Up to the first event that takes something forged from outside, each reply is one that its
--- event may get at the ledger so far, and each printed line is the mark of its event. If no event does, the ledger that they leave is lawful,
--- and at each moment accepted mail was franked, and franked mail was bought.
+-- The steps are right from the empty ledger on, by what this tariff reads in rates. Up to the first event that takes something forged from
+-- outside, each reply is one that its event may get at the ledger so far, and each printed line is the mark of its event. If no event does,
+-- the ledger that they leave is lawful, and at each moment accepted mail was franked, and franked mail was bought.
 pub record AreRight (τ : Tariff) (steps : List StepRecord) : Type 0 where
   pub replies : RunWhile τ Unforged (Moves τ) (Begin ∷ []) steps
   pub prints : RunWhile τ Unforged (Prints τ) (Begin ∷ []) steps

@@ -1,10 +1,9 @@
 -- A run over a script: what it means to do its steps.
 use Rattle.std.specs.Prelude.{◌≡◌, List, [], ◌∷◌, None, IsSome}
 use Rattle.std.specs.Io.KnownBytes.{Consumes, Appends}
-use Rattle.bench_base.specs.declared.ledger.Entry.TheVariants.{Begin}
+use Rattle.bench_base.specs.declared.{ledger.Entry.TheVariants.Begin, events.Event.Event}
 use Rattle.bench_base.specs.Ledger.{Ledger}
 use Rattle.bench_base.specs.Rules.{todays_rules}
-use Rattle.bench_base.specs.declared.events.Event.{Event}
 use Rattle.bench_base.specs.declared.events.Event.TheVariants as ev
 use Rattle.node_turns.specs.Printing.{print_of}
 use Rattle.ledger_terms.specs.Sane.{IsSane}
@@ -24,10 +23,8 @@ use Rattle.script_replay.specs.Trace.{rates_of, printed_of, ledger_after, RunWhi
 use Rattle.script_replay.specs.Marks.{IsPrinted}
 use Rattle.script_replay.specs.Throughout.{IsAllPaid, StandsFor, Throughout}
 use Rattle.script_replay.specs.Undisturbed.{IsAnswer, IsTheAnswer, NoneOpen, AreUndisturbed}
-use Rattle.line_runs.specs.declared.status.Status.{Status}
+use Rattle.line_runs.specs.declared.{status.Status.Status, status.SideStatus.SideStatus, status.SideStatus.TheVariants.Run, status.SideStatus.TheVariants.Stopped}
 use Rattle.line_runs.specs.declared.status.Status.TheVariants as status
-use Rattle.line_runs.specs.declared.status.SideStatus.{SideStatus}
-use Rattle.line_runs.specs.declared.status.SideStatus.TheVariants.{Run, Stopped}
 
 -- == what it means to do the steps ==
 
@@ -60,11 +57,12 @@ Leaves (Run status.TooLong) behind now = now ≡ behind
 Leaves Stopped behind now = now ≡ behind
 
 module _ (n : Nodes) where
-  -- By a history for which the bench stood, with a run begun: each reply is one that its event may get there, and as long as
-  -- nothing from outside is forged the bench represents what the steps leave, which is lawful and paid for to the letter box, and no
-  -- reply is one that never comes where devices and centre are honest. A printer that tells what it took has the marks of the events. Where no storage and no
-  -- stream failed and no fuse was armed, each reply is the answer: of a node that comes on with an open commit one of its two, and
-  -- where no commit was open at the beginning the answer itself.
+  -- What holds by a history that the bench represented, with a run begun. Each reply is one that its event may get there. As long as
+  -- nothing from outside is forged, the bench represents what the steps leave, and no reply is one that is never given if devices and
+  -- centre are honest. What the steps leave is then lawful and paid for to the letter box. A printer that exposes what it took has the
+  -- marks of the events.
+  -- If no storage and no stream failed and no fuse was armed, each reply is the answer. A node that comes on with an open commit has two
+  -- answers, and the reply is one of them. If no commit was open at the beginning, the reply is the answer itself.
   pub record DidOver (τ : Tariff) (L : Ledger) (old new : SceneOf n) (trace : List StepRecord) : Type 0 where
     pub run : RunWhile τ Unforged (Moves τ) (Begin ∷ L) trace
     pub stands : AreUnforged τ Unforged (Begin ∷ L) trace → StandsFor n τ new.bench (ledger_after τ (Begin ∷ L) trace)
@@ -76,8 +74,8 @@ module _ (n : Nodes) where
     pub exact : AreUndisturbed n old new trace → NoneOpen L → RunWhile τ Unforged (IsTheAnswer τ) (Begin ∷ L) trace
 
 -- The bench began a run, without a day, messages and rates, and did the steps: each event by a step, whether or not a history
--- leads to what the storages show. The rates and the printer are as they took and printed in turn. By a history for which the bench
--- stood, it stands at each moment for what was done so far, and so does what a stop of the process leaves.
+-- leads to what the storages show. The rates and the printer are as they took and printed in turn. If the bench represented
+-- a history, it represents at each moment what was done so far, and what a stop of the process leaves represents that too.
 pub record DidRun (n : Nodes)
     (old new : SceneOf n) (outcome : Status) (trace : List StepRecord) : Type 0 where
   pub begun : BenchOf n
@@ -92,4 +90,5 @@ pub record DidRun (n : Nodes)
   pub printed : Appends old.outside.printer.taken new.outside.printer.taken (printed_of trace)
   pub balanced : AreBalanced n old new trace
   pub over : (τ : Tariff) (L : Ledger) → IsOfTexts τ → StandsFor n τ old.bench L → n.storage.tells → DidOver n τ L old new trace
-  pub throughout : (τ : Tariff) (L : Ledger) → IsOfTexts τ → StandsFor n τ old.bench L → n.storage.tells → Throughout n τ (Begin ∷ L) (scene begun old.outside) behind trace steps
+  pub throughout : (τ : Tariff) (L : Ledger) → IsOfTexts τ → StandsFor n τ old.bench L → n.storage.tells
+      → Throughout n τ (Begin ∷ L) (scene begun old.outside) behind trace steps

@@ -1,8 +1,7 @@
--- That steps are done one after the other.
+-- Steps are done one after the other.
 use Rattle.std.proofs.Common.{◌≢◌, List, [], ◌∷◌, ◌++◌, refl, sym, subst}
 use Rattle.line_runs.specs.declared.status.Status.TheVariants as status
-use Rattle.line_runs.specs.declared.status.SideStatus.{SideStatus}
-use Rattle.line_runs.specs.declared.status.SideStatus.TheVariants.{Run, Stopped}
+use Rattle.line_runs.specs.declared.{status.SideStatus.SideStatus, status.SideStatus.TheVariants.Run, status.SideStatus.TheVariants.Stopped}
 use Rattle.line_runs.specs.Turns.{AreDone}
 use Rattle.bench.specs.Benches.{Nodes}
 use Rattle.line_extensions.specs.Trace.{StepRecord, done_in}

@@ -1,14 +1,12 @@
--- A run with a desk beside the bench: what was done, and how it ended.
+-- A run with an extension beside the bench: what was done, and how it ended.
 use Rattle.std.specs.Prelude.{◌≡◌, ◌↔◌, ◌≤◌, ℕ, List, [], ◌∷◌, IfSome}
 use Rattle.bench_base.specs.Causes.{Rose}
 use Rattle.node_turns.specs.declared.turn.Turn.{Turn}
 use Rattle.bench.specs.Benches.{Nodes, BenchOf}
 use Rattle.line_runs.specs.Ends.{EndsAs, IsByScript, IsComplete}
 use Rattle.line_runs.specs.Runs.{Replayed}
-use Rattle.line_runs.specs.declared.status.Status.{Status}
+use Rattle.line_runs.specs.declared.{status.Status.Status, status.SideStatus.SideStatus, status.SideStatus.TheVariants.Run, status.SideStatus.TheVariants.Stopped}
 use Rattle.line_runs.specs.declared.status.Status.TheVariants as status
-use Rattle.line_runs.specs.declared.status.SideStatus.{SideStatus}
-use Rattle.line_runs.specs.declared.status.SideStatus.TheVariants.{Run, Stopped}
 use Rattle.line_extensions.specs.Trace.{StepRecord}
 use Rattle.line_extensions.specs.Desks.{World, world, SideLeaves, side_grammar, side_lines, Does}
 use Rattle.line_extensions.specs.SideTrace.{SideStep, steps_of}
@@ -18,12 +16,12 @@ use Rattle.script_replay.specs.Run.{DidRun, Leaves}
 use Rattle.script_replay.specs.Streams.{Streams}
 
 module _ (n : Nodes) where
-  -- this was done by a step of the bench, whose turn this is
+  -- this was done by a step of the bench with this turn
   abbrev pub StepsBy : SceneOf n → SceneOf n → StepRecord → Turn → Type 0
   StepsBy s t d turn = (did : DidEvent n s t d) × (did.turn ≡ turn)
 
   module _ {K T : Type 0} (k : Ghosts K T) where
-    -- The bench began a run, and desk and bench did the steps. What the bench did of them is what `run` says of a script that has the
+    -- The bench began a run, and extension and bench did the steps. What the bench did of them is what `run` says of a script that has the
     -- events in their place, of the bench that began so.
     pub record DidSide (old new : World (SceneOf n) K) (outcome : SideStatus) (trace : List (SideStep k.Own)) : Type 0 where
       pub begun : BenchOf n
@@ -35,7 +33,8 @@ module _ (n : Nodes) where
       pub same : bench.begun ≡ begun
 
 -- what a run did over the words that were given, where it is called by this one
-pub record RanSide {K T : Type 0} (k : Ghosts K T) (word : List ℕ) (outcome : SideStatus) (given : List (List ℕ)) (WasDone : List (SideStep k.Own) → Type 0) (before now : Streams) : Type 0 where
+pub record RanSide {K T : Type 0} (k : Ghosts K T) (word : List ℕ) (outcome : SideStatus) (given : List (List ℕ))
+    (WasDone : List (SideStep k.Own) → Type 0) (before now : Streams) : Type 0 where
   pub replays : given ≡ word ∷ [] → Replayed (side_lines k) outcome WasDone before.left now.left before.taken now.taken
   pub nothing : (given ≡ word ∷ [] → ⊥) → WasDone []
 
@@ -49,7 +48,8 @@ pub record EndsSide {K T : Type 0} (k : Ghosts K T) (word : List ℕ) (outcome :
   pub read_later : before.read_faults ≤ now.read_faults
   pub write_later : before.write_faults ≤ now.write_faults
 
--- it comes to its end where no stream failed and no commit of the desk's storage
+-- it comes to its end where no stream failed and no commit of the extension's storage
 abbrev pub CompletesSide : {K T : Type 0} (k : Ghosts K T) (word : List ℕ) (outcome : SideStatus) (given : List (List ℕ)) (before now : Streams) → Type 0
-CompletesSide k word outcome given before now = given ≡ word ∷ [] → (Rose before.read_faults now.read_faults → ⊥) → (Rose before.write_faults now.write_faults → ⊥) → (outcome ≡ Stopped → ⊥)
+CompletesSide k word outcome given before now = given ≡ word ∷ [] → (Rose before.read_faults now.read_faults → ⊥)
+    → (Rose before.write_faults now.write_faults → ⊥) → (outcome ≡ Stopped → ⊥)
     → IfSome before.left (λ bytes. (end : EndsAs (side_grammar k) status.Done bytes) → IsComplete (side_grammar k) outcome end.passed)

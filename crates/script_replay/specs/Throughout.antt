@@ -24,7 +24,7 @@ module _ (n : Nodes) where
     pub history : History τ editions L
     pub stands : Stands n bench L
 
-  -- Before an event and behind the last: the bench represents the ledger so far, which is lawful and paid for to the letter box; and what a
+  -- Before an event and after the last: the bench represents the ledger so far, which is lawful and paid for to the letter box; and what a
   -- stop of the process leaves represents that ledger with a new run begun.
   pub record IsBetween (τ : Tariff) (bench : BenchOf n) (L : Ledger) : Type 0 where
     pub stands : StandsFor τ bench L

@@ -20,7 +20,7 @@ use nv_model::{MemNv, Nv};
 use std::alloc::Global;
 use text_streams::BufSource;
 
-/// The room of a storage's record, in calls. Where it is full, each write fails.
+/// The room of a storage's record, in calls. If it is full, each write fails.
 const CALLS: u32 = 12_000;
 
 /// The room in written bytes: a commit of a device writes 215 by six calls, and one of the other nodes fewer.
@@ -51,7 +51,7 @@ fn blanks(alloc: Global) -> Option<Vec<MemNv>>
     Some(stores)
 }
 
-/// A bench over such storages, on which nothing was done. `None` if there is no memory for it.
+/// An unused bench over such storages. `None` if there is no memory for it.
 pub fn fresh_bench(alloc: Global) -> Option<Bench<MemNv>>
     ensures ready { IfSome result (λ bench. IsReady (bench_of bench)) }
     ensures tells { IfSome result (λ bench. ⟦<MemNv as Nv>⟧.tells) }
@@ -70,7 +70,7 @@ pub fn fresh_bench(alloc: Global) -> Option<Bench<MemNv>>
     }
 }
 
-// The run over a bench on which nothing was done.
+// The run over an unused bench.
 fn run_over<S: BufSource, K: Sink>(
     alloc: Global,
     words: &[String],

@@ -13,8 +13,7 @@ ghost use Rattle.line_extensions.specs.Trace.{StepRecord};
 ghost use Rattle.script_replay.specs.Generated.{EndsWith, Generated, InTheMidst, summary_line};
 ghost use Rattle.script_replay.specs.Run.{Leaves};
 ghost use Rattle.line_runs.specs.Turns.{Ended};
-ghost use Rattle.line_runs.specs.declared.status.SideStatus.TheVariants.{Run};
-ghost use Rattle.line_runs.specs.declared.status.Status.{Status};
+ghost use Rattle.line_runs.specs.declared.{status.SideStatus.TheVariants.Run, status.Status.Status};
 ghost use Rattle.std.specs.Io.KnownBytes.{Appends};
 
 use crate::steps::OnBench;
@@ -56,7 +55,7 @@ fn count_event<M: Fuse + Drop, N: Nv, R: Source, P: Sink>(
     );
     match told {
         Ok(reply) => summary.count(&reply),
-        // Only a `rates` wants memory, and none is generated.
+        // Only a `rates` can run out of memory, and none is generated.
         Err(_) => unreachable!(),
     }
 }

@@ -22,15 +22,15 @@ pub fn one_end()
     ensures { (s t : Status) (bytes : List ℕ) → EndsAs script_grammar s bytes → EndsAs script_grammar t bytes → s ≡ t }
 {}
 
-/// A report tells its replies: the steps of two scripts whose reports are the same bytes tell the same, reply by reply. Those of a
-/// run are such steps (`Replayed.each`), so no more is asked of them.
+/// A report determines its replies: if the reports of the steps of two scripts are the same bytes, the steps report the same, reply
+/// by reply. Those of a run are such steps (`Replayed.each`), so no more is asked of them.
 pub fn one_report()
     ensures { (a b : List TraceStep) → AllByRecursion (Reads script_lines) a → AllByRecursion (Reads script_lines) b
         → report_of script_lines a ≡ report_of script_lines b
         → map told (replies_of (done_in a)) ≡ map told (replies_of (done_in b)) }
 {}
 
-/// Where no event gives or scans bytes from outside, nothing is forged: what a run promises by a history holds of it as it is.
+/// If no event gives or scans bytes from outside, nothing is forged: what a run promises by a history holds of it as it is.
 pub fn nothing_forged()
     ensures { (τ : Tariff) (H : Ledger) (trace : List StepRecord) → AllByRecursion BringsNone trace
         → AreUnforged τ Unforged H trace }

@@ -133,14 +133,14 @@ fn replay<S: BufSource, K: Sink, M: Fuse + Drop, N: Nv, R: Source, P: Sink>(
 }
 
 /// Does all that the program does, as the words call for. For `replay` it does the events of the script, line by line, and writes
-/// a line of the report for each before it reads the next; for `generate` it does the events of a run that is made from a number, and
-/// writes one line about all of them. The bench begins a new run in any case. Only a `rates` of a script takes memory.
+/// a line of the report for each before it reads the next. For `generate` it does the events of a run that is made from a number,
+/// and writes one line about all of them. The bench begins a new run in any case. Only a `rates` of a script takes memory.
 ///
-/// Each event is done by a step of the bench; that holds of each whether or not a history leads to what the storages show. For
-/// every history for which the bench stood, and whose storages tell what they hold, each reply is one that its event may get,
-/// the bench represents what the events leave, and that ledger is lawful, as long as nothing from outside is forged. Whatever the
-/// storages tell, a failure of power, storage or a stream is answered only as often as they and the cuts account for; so where none
-/// failed, no fuse was armed and no `cut` was answered, each reply is its event's answer.
+/// Each event is done by a step of the bench; that holds of each whether or not a history leads to what the storages show. More
+/// holds for every history that the bench represented, if the storages expose what they hold, as long as nothing from outside is
+/// forged. Each reply is one that its event may get, the bench represents what the events leave, and that ledger is lawful.
+/// Whatever the storages expose, a failure of power, storage or a stream is answered only as often as they and the cuts account for.
+/// So each reply is its event's answer if none failed, no fuse was armed and no `cut` was answered.
 pub fn run<S: BufSource, R: Source, K: Sink, P: Sink, N: Nv + Drop>(
     alloc: Global,
     words: &[String],
@@ -166,7 +166,7 @@ pub fn run<S: BufSource, R: Source, K: Sink, P: Sink, N: Nv + Drop>(
         (streams_of S.Source K.Sink R.Source P.Sink script.old report.old rates.old printer.old)
         (streams_of S.Source K.Sink R.Source P.Sink script.new report.new rates.new printer.new) }
 
-    // That it comes to its end.
+    // It comes to its end.
     ensures completes { Completes result (map string_bytes words.now)
         (streams_of S.Source K.Sink R.Source P.Sink script.old report.old rates.old printer.old)
         (streams_of S.Source K.Sink R.Source P.Sink script.new report.new rates.new printer.new) }

@@ -1,4 +1,4 @@
-//! A run over a script with a desk beside the bench.
+//! A run over a script with an extension beside the bench.
 ghost use Rattle.std.specs.Prelude.{◌≡◌, ◌∷◌, [], true, false, map, string_bytes};
 ghost use Rattle.bench.specs.Benches.{IsReady, bench_of};
 ghost use Rattle.line_extensions.specs.Desks.{world};
@@ -34,7 +34,7 @@ fn is_called(words: &[String], word: &str) -> bool
     }
 }
 
-/// Does a script whose lines are events of the bench or a desk's own, as `run` does one of events, where the words are this one.
+/// Does a script with lines that are events of the bench or an extension's own, as `run` does one of events, if the words are this one.
 pub fn run_side<D: Extension, S: BufSource, R: Source, K: Sink, P: Sink, N: Nv + Drop>(
     alloc: Global,
     word: &str,

@@ -1,4 +1,4 @@
-//! The bench, as a desk has steps of it done.
+//! The bench, as an extension has steps of it done.
 ghost use Rattle.std.specs.Prelude.{length};
 ghost use Rattle.bench.specs.Benches.{IsReady};
 ghost use Rattle.script_replay.specs.Chains.{scene_of, SceneOver};

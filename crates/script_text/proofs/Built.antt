@@ -3,7 +3,7 @@ use Rattle.std.proofs.Common.{◌≡◌, ℕ, List, [], ◌∷◌, ◌++◌, ref
 use Rattle.std.proofs.lemmas.List.{append-nil, append_assoc}
 use Rattle.script_words.specs.Words.{spaced}
 
--- the line so far: how it starts, and the words behind that
+-- the line so far: how it starts, and the words after that
 pub record Built (start : List ℕ) (ws : List (List ℕ)) (line : List ℕ) : Type 0 where
   pub is : line ≡ start ++ spaced ws
 

@@ -1,13 +1,9 @@
--- Each event has its line: with which keyword it begins, that its bytes are above the space, so that a line is told by its words, and
--- that an event is told by them.
+-- Each event has its line: with which keyword it begins, that its bytes are above the space, so that its words determine a line,
+-- and that they determine an event.
 use Rattle.std.proofs.Common.{◌≡◌, ◌≢◌, ℕ, ℤ, ◌+◌, List, [], ◌∷◌, true, false, refl, sym, ap, ◌∙◌, subst, cond, codes, ◌<◌, arith, ◌++◌}
-use Rattle.bench_base.specs.declared.words.Kind.{Kind}
-use Rattle.bench_base.specs.declared.words.Node.{Node}
-use Rattle.bench_base.specs.declared.events.Event.{Event}
+use Rattle.bench_base.specs.declared.{words.Kind.Kind, words.Node.Node, events.Event.Event, words.Kind.TheVariants.Enrol, words.Kind.TheVariants.Reset, words.Kind.TheVariants.Audit, words.Kind.TheVariants.Refund, words.Kind.TheVariants.Withdraw, words.Node.TheVariants.Device, words.Node.TheVariants.Centre, words.Node.TheVariants.Host, words.Node.TheVariants.Verifier}
 use Rattle.bench_base.specs.Ranges.{IsDevice, IsNode, TakesBytes, IsAsk}
 use Rattle.bench_base.specs.Events.{IsWholeEvent}
-use Rattle.bench_base.specs.declared.words.Kind.TheVariants.{Enrol, Reset, Audit, Refund, Withdraw}
-use Rattle.bench_base.specs.declared.words.Node.TheVariants.{Device, Centre, Host, Verifier}
 use Rattle.bench_base.specs.declared.events.Event.TheVariants as ev
 use Rattle.script_words.specs.Words.{words_in, joined, device_word}
 use Rattle.script_text.specs.declared.keyword.Keyword.{Keyword}

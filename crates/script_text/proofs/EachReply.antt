@@ -1,13 +1,8 @@
--- Each reply has its text: its bytes are above the space, so that it is one line and is told by its words; and the reply is told by it,
--- except for the number in a fault of a mark.
+-- Each reply has its text: its bytes are above the space, so that it is one line and its words determine it. The text determines the
+-- reply, except for the number in a fault of a mark.
 use Rattle.std.proofs.Common.{◌≡◌, ◌≢◌, ℕ, zero, suc, ℤ, ◌<◌, List, [], ◌∷◌, ◌++◌, true, false, Option, Some, None, refl, arith, codes, length, drop, cond, eqb, sym, ap, ◌∙◌}
 use Rattle.std.specs.List.{All, AllByRecursion}
-use Rattle.bench_base.specs.declared.words.Phase.{Phase}
-use Rattle.bench_base.specs.declared.words.Kind.{Kind}
-use Rattle.bench_base.specs.declared.words.Verdict.{Verdict}
-use Rattle.bench_base.specs.declared.events.Reply.{Reply}
-use Rattle.bench_base.specs.declared.words.Kind.TheVariants.{Enrol, Reset, Audit, Refund, Withdraw}
-use Rattle.bench_base.specs.declared.events.DevView.{DevView}
+use Rattle.bench_base.specs.declared.{words.Phase.Phase, words.Kind.Kind, words.Verdict.Verdict, events.Reply.Reply, words.Kind.TheVariants.Enrol, words.Kind.TheVariants.Reset, words.Kind.TheVariants.Audit, words.Kind.TheVariants.Refund, words.Kind.TheVariants.Withdraw, events.DevView.DevView}
 use Rattle.bench_base.specs.declared.words.Verdict.TheVariants as verdict
 use Rattle.bench_base.specs.declared.events.Reply.TheVariants as reply
 use Rattle.script_words.specs.Words.{words_in, joined, spaced}

@@ -1,18 +1,11 @@
--- Words behind a keyword that no event has.
+-- Words after a keyword that no event has.
 use Rattle.std.proofs.Common.{◌≡◌, ◌≢◌, ℕ, ◌≤◌, ◌<◌, ◌^◌, List, [], ◌∷◌, get_or, Result, Ok, Err, refl, sym, ap, subst, ◌∙◌, arith, inl, inr, ◌⊎◌, decimal, codes}
 use Rattle.std.specs.Prelude.{IfOk, OnErr}
 use Rattle.std.specs.Result.{IsErr}
-use Rattle.bench_base.specs.declared.words.Kind.{Kind}
-use Rattle.bench_base.specs.declared.words.Kind.TheVariants.{Enrol, Reset, Audit, Refund, Withdraw}
-use Rattle.bench_base.specs.declared.words.Node.{Node}
-use Rattle.bench_base.specs.declared.words.Node.TheVariants.{Device, Centre, Host, Verifier}
-use Rattle.bench_base.specs.declared.events.Event.{Event}
+use Rattle.bench_base.specs.declared.{words.Kind.Kind, words.Kind.TheVariants.Enrol, words.Kind.TheVariants.Reset, words.Kind.TheVariants.Audit, words.Kind.TheVariants.Refund, words.Kind.TheVariants.Withdraw, words.Node.Node, words.Node.TheVariants.Device, words.Node.TheVariants.Centre, words.Node.TheVariants.Host, words.Node.TheVariants.Verifier, events.Event.Event}
 use Rattle.bench_base.specs.Ranges.{IsNode, IsGiven, TakesBytes, IsDevice, IsAsk}
-use Rattle.script_words.specs.declared.word.LineFault.{LineFault}
+use Rattle.script_words.specs.declared.{word.LineFault.LineFault, values.Byte.Byte, values.Msg.Msg, values.Hex.Hex}
 use Rattle.script_text.specs.declared.keyword.Keyword.TheVariants as kw
-use Rattle.script_words.specs.declared.values.Byte.{Byte}
-use Rattle.script_words.specs.declared.values.Msg.{Msg}
-use Rattle.script_words.specs.declared.values.Hex.{Hex}
 use Rattle.script_text.specs.Grammar.{ask_words}
 use Rattle.script_text.specs.Reading.{AreNoWords, IsEventOf, IsEventBehind}
 use Rattle.script_words.specs.Words.{words_in, node_word, given_word, byte_word, device_word, kind_word}
@@ -87,6 +80,6 @@ no_scan ws msg hex = no_event kw.Scan ws (
   (λ n g whole are. hex n (record {}) g whole.1 tt whole.2 (behind _ _ _ _ are)),
 )
 
--- words behind a word that stands alone
+-- words after a word that is a line alone
 pub not_alone : (word line : List ℕ) → word ∷ words_in line ≡ word ∷ [] → ⊥
 not_alone word line are = subst HasFirst (behind word word (words_in line) [] are) (words_in_some line)

@@ -1,8 +1,7 @@
 -- Words call the program for one thing at most.
 use Rattle.std.proofs.Common.{◌≡◌, ℕ, List, [], length, get_or, Option, Some, None, IfSome, IfNone, ap, ap₂, sym, ◌∙◌, arith, decimal, refl}
 use Rattle.script_text.specs.Programs.{program_words, AreInRange}
-use Rattle.script_text.specs.declared.program.Words.{Words}
-use Rattle.script_text.specs.declared.program.Words.TheVariants.{Replay, Generate}
+use Rattle.script_text.specs.declared.{program.Words.Words, program.Words.TheVariants.Replay, program.Words.TheVariants.Generate}
 use Rattle.script_words.proofs.Numbers.{same_number}
 
 one_call : (v w : Words) → AreInRange v → AreInRange w → program_words v ≡ program_words w → v ≡ w

@@ -1,21 +1,14 @@
--- A refusal is told by its words.
+-- The words of a refusal determine it.
 use Rattle.std.proofs.Common.{◌≡◌, ℕ, List, cond, refl, ap, arith, codes}
-use Rattle.bench_base.specs.declared.words.Phase.{Phase}
+use Rattle.bench_base.specs.declared.{words.Phase.Phase, words.JobState.JobState, refusals.Unread.Unread, refusals.DevRefusal.DevRefusal, refusals.CentreRefusal.CentreRefusal, refusals.HostRefusal.HostRefusal, refusals.ScanRefusal.ScanRefusal, refusals.MarkFault.MarkFault}
 use Rattle.bench_base.specs.declared.words.Phase.TheVariants as phase
-use Rattle.bench_base.specs.declared.words.JobState.{JobState}
 use Rattle.bench_base.specs.declared.words.JobState.TheVariants as state
-use Rattle.bench_base.specs.declared.refusals.Unread.{Unread}
 use Rattle.bench_base.specs.declared.refusals.Unread.TheVariants as unread
-use Rattle.bench_base.specs.declared.refusals.DevRefusal.{DevRefusal}
 use Rattle.bench_base.specs.declared.refusals.DevRefusal.TheVariants as dev
-use Rattle.bench_base.specs.declared.refusals.CentreRefusal.{CentreRefusal}
 use Rattle.bench_base.specs.declared.refusals.CentreRefusal.TheVariants as centre
 use Rattle.bench_base.specs.declared.refusals.RateRefusal.TheVariants as rate
-use Rattle.bench_base.specs.declared.refusals.HostRefusal.{HostRefusal}
 use Rattle.bench_base.specs.declared.refusals.HostRefusal.TheVariants as host
-use Rattle.bench_base.specs.declared.refusals.ScanRefusal.{ScanRefusal}
 use Rattle.bench_base.specs.declared.refusals.ScanRefusal.TheVariants as scan
-use Rattle.bench_base.specs.declared.refusals.MarkFault.{MarkFault}
 use Rattle.bench_base.specs.declared.refusals.MarkFault.TheVariants as fault
 use Rattle.script_text.specs.Refusals.{phase_word, state_word, unread_word, fault_word, dev_parts, centre_parts, host_parts, scan_parts, dev_words, centre_words, host_words, scan_words, AreWhole}
 use Rattle.script_text.specs.Texts.{told_fault, told_refusal}

@@ -1,9 +1,7 @@
 -- The lines of a script, and the events that they spell.
 use Rattle.std.specs.Prelude.{◌≡◌, ℕ, ℤ, Option, Some, None, List, [], ◌∷◌, ◌++◌, Bool, true, false, codes, decimal}
 use Rattle.psd_audit.specs.Dates.{IsDateText}
-use Rattle.bench_base.specs.declared.words.Kind.{Kind}
-use Rattle.bench_base.specs.declared.words.Kind.TheVariants.{Enrol, Reset}
-use Rattle.bench_base.specs.declared.events.Event.{Event}
+use Rattle.bench_base.specs.declared.{words.Kind.Kind, words.Kind.TheVariants.Enrol, words.Kind.TheVariants.Reset, events.Event.Event}
 use Rattle.bench_base.specs.declared.events.Event.TheVariants as ev
 use Rattle.bench_base.specs.Events.{needs}
 use Rattle.script_words.specs.Words.{joined, device_word, node_word, hex_word, byte_word, given_word, kind_word}

@@ -1,8 +1,7 @@
 -- The words that the program is called with.
 use Rattle.std.specs.Prelude.{ℕ, ◌≤◌, List, [], ◌∷◌, codes, decimal}
 use Rattle.bench_base.specs.Ranges.{IsWord}
-use Rattle.script_text.specs.declared.program.Words.{Words}
-use Rattle.script_text.specs.declared.program.Words.TheVariants.{Replay, Generate}
+use Rattle.script_text.specs.declared.{program.Words.Words, program.Words.TheVariants.Replay, program.Words.TheVariants.Generate}
 
 -- numbers are decimal, without leading zeros
 abbrev pub program_words : Words → List (List ℕ)

@@ -1,4 +1,4 @@
--- What the words behind a keyword read as.
+-- What the words after a keyword read as.
 use Rattle.std.specs.Prelude.{ℕ, List, ◌∷◌, Result, Ok, Err}
 use Rattle.bench_base.specs.declared.events.Event.{Event}
 use Rattle.bench_base.specs.Events.{IsWholeEvent}
@@ -11,7 +11,7 @@ use Rattle.script_text.specs.declared.keyword.Keyword.{Keyword}
 abbrev pub AreNoWords : List (List ℕ) → Type 0
 AreNoWords ws = (e : Event) → IsWholeEvent e → AreWordsOf e ws → ⊥
 
--- the event is whole and has these words; where there is none, no event has them
+-- the event is whole and has these words; if there is no such event, no event has them
 abbrev pub IsEventOf : List (List ℕ) → Result Event LineFault → Type 0
 IsEventOf ws (Ok e) = IsWholeEvent e × AreWordsOf e ws
 IsEventOf ws (Err fault) = AreNoWords ws

@@ -2,24 +2,15 @@
 use Rattle.std.specs.Prelude.{ℕ, ℤ, ◌<◌, ◌^◌, List, ◌∷◌, [], map, codes, decimal, FitsSigned}
 use Rattle.std.specs.Int.{w32}
 use Rattle.std.specs.Fmt.{signed_decimal}
-use Rattle.bench_base.specs.declared.words.Kind.{Kind}
-use Rattle.bench_base.specs.declared.words.Phase.{Phase}
+use Rattle.bench_base.specs.declared.{words.Kind.Kind, words.Phase.Phase, words.JobState.JobState, refusals.Unread.Unread, refusals.MarkFault.MarkFault, refusals.DevRefusal.DevRefusal, refusals.CentreRefusal.CentreRefusal, refusals.RateRefusal.RateRefusal, refusals.HostRefusal.HostRefusal, refusals.ScanRefusal.ScanRefusal}
 use Rattle.bench_base.specs.declared.words.Phase.TheVariants as phase
-use Rattle.bench_base.specs.declared.words.JobState.{JobState}
 use Rattle.bench_base.specs.declared.words.JobState.TheVariants as state
-use Rattle.bench_base.specs.declared.refusals.Unread.{Unread}
 use Rattle.bench_base.specs.declared.refusals.Unread.TheVariants as unread
-use Rattle.bench_base.specs.declared.refusals.MarkFault.{MarkFault}
 use Rattle.bench_base.specs.declared.refusals.MarkFault.TheVariants as fault
-use Rattle.bench_base.specs.declared.refusals.DevRefusal.{DevRefusal}
 use Rattle.bench_base.specs.declared.refusals.DevRefusal.TheVariants as dev
-use Rattle.bench_base.specs.declared.refusals.CentreRefusal.{CentreRefusal}
 use Rattle.bench_base.specs.declared.refusals.CentreRefusal.TheVariants as centre
-use Rattle.bench_base.specs.declared.refusals.RateRefusal.{RateRefusal}
 use Rattle.bench_base.specs.declared.refusals.RateRefusal.TheVariants as rate
-use Rattle.bench_base.specs.declared.refusals.HostRefusal.{HostRefusal}
 use Rattle.bench_base.specs.declared.refusals.HostRefusal.TheVariants as host
-use Rattle.bench_base.specs.declared.refusals.ScanRefusal.{ScanRefusal}
 use Rattle.bench_base.specs.declared.refusals.ScanRefusal.TheVariants as scan
 use Rattle.bench_base.specs.Ranges.{IsCustomer, IsWord}
 use Rattle.script_words.specs.Words.{kind_word}

@@ -1,12 +1,10 @@
--- The summary of a generated run: of how many replies it tells what.
+-- The summary of a generated run: how many replies of each kind it had.
 use Rattle.std.specs.Prelude.{ℕ, ◌+◌, ◌≤◌, List, [], ◌∷◌, Bool, true, false, codes, decimal}
-use Rattle.bench_base.specs.declared.events.Reply.{Reply}
-use Rattle.bench_base.specs.declared.questions.Report.{Report}
+use Rattle.bench_base.specs.declared.{events.Reply.Reply, questions.Report.Report}
 use Rattle.bench_base.specs.declared.questions.Report.TheVariants as report
 use Rattle.bench_base.specs.Replies.{report_of}
 use Rattle.script_words.specs.Words.{joined}
-use Rattle.script_text.specs.declared.column.Column.{Column}
-use Rattle.script_text.specs.declared.column.Column.TheVariants.{Refused, Power, Fault, Released, Accepted, Uncounted}
+use Rattle.script_text.specs.declared.{column.Column.Column, column.Column.TheVariants.Refused, column.Column.TheVariants.Power, column.Column.TheVariants.Fault, column.Column.TheVariants.Released, column.Column.TheVariants.Accepted, column.Column.TheVariants.Uncounted}
 
 -- an acceptance counts where it is new
 abbrev pub accepted_as : Bool → Column
@@ -36,7 +34,7 @@ pub record Tally : Type 0 where
 abbrev pub nothing : Tally
 nothing = record { events = 0; refused = 0; power = 0; fault = 0; released = 0; accepted = 0 }
 
--- what an event adds whose reply is counted in this column
+-- what an event adds if its reply is counted in this column
 abbrev pub one_in : Column → Tally
 one_in Refused = record { events = 1; refused = 1; power = 0; fault = 0; released = 0; accepted = 0 }
 one_in Power = record { events = 1; refused = 0; power = 1; fault = 0; released = 0; accepted = 0 }

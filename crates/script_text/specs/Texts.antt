@@ -2,17 +2,10 @@
 use Rattle.std.specs.Prelude.{◌≡◌, ℕ, ◌<◌, ◌^◌, List, ◌∷◌, [], length, Bool, true, false, Option, Some, None, codes, decimal, FitsSigned}
 use Rattle.std.specs.Int.{w32}
 use Rattle.std.specs.Fmt.{signed_decimal}
-use Rattle.bench_base.specs.declared.words.Kind.{Kind}
-use Rattle.bench_base.specs.declared.words.Verdict.{Verdict}
-use Rattle.bench_base.specs.declared.words.Verdict.TheVariants.{Granted, NotEnrolled, EnrolledAlready, NoCustomer, Suspended, NoFunds, Imbalance}
-use Rattle.bench_base.specs.declared.refusals.ScanRefusal.{ScanRefusal}
+use Rattle.bench_base.specs.declared.{words.Kind.Kind, words.Verdict.Verdict, words.Verdict.TheVariants.Granted, words.Verdict.TheVariants.NotEnrolled, words.Verdict.TheVariants.EnrolledAlready, words.Verdict.TheVariants.NoCustomer, words.Verdict.TheVariants.Suspended, words.Verdict.TheVariants.NoFunds, words.Verdict.TheVariants.Imbalance, refusals.ScanRefusal.ScanRefusal, refusals.MarkFault.MarkFault, events.Reply.Reply, questions.Refusal.TheVariants.Verifier as OfVerifier, questions.Report.Report}
 use Rattle.bench_base.specs.declared.refusals.ScanRefusal.TheVariants as scan
-use Rattle.bench_base.specs.declared.refusals.MarkFault.{MarkFault}
 use Rattle.bench_base.specs.declared.refusals.MarkFault.TheVariants as fault
-use Rattle.bench_base.specs.declared.events.Reply.{Reply}
 use Rattle.bench_base.specs.declared.events.Reply.TheVariants as reply
-use Rattle.bench_base.specs.declared.questions.Refusal.TheVariants.{Verifier as OfVerifier}
-use Rattle.bench_base.specs.declared.questions.Report.{Report}
 use Rattle.bench_base.specs.declared.questions.Report.TheVariants as report
 use Rattle.bench_base.specs.Ranges.{IsDevice, IsCustomer, IsNode, IsWord, IsDay}
 use Rattle.bench_base.specs.Replies.{report_of}
@@ -68,7 +61,8 @@ reply_words (reply.Registered d) = codes "registered" ∷ device_word d ∷ []
 reply_words (reply.Opened c) = codes "opened" ∷ decimal c ∷ []
 reply_words (reply.Deposited c receipt again total) = codes "deposited" ∷ decimal c ∷ decimal receipt ∷ new_word again ∷ decimal total ∷ []
 reply_words (reply.Balance c total) = codes "balance" ∷ decimal c ∷ decimal total ∷ []
-reply_words (reply.Ruled d number verdict again k) = codes "ruled" ∷ device_word d ∷ decimal number ∷ codes "verdict" ∷ verdict_word verdict ∷ new_word again ∷ codes "msg" ∷ decimal k ∷ []
+reply_words (reply.Ruled d number verdict again k) = codes "ruled" ∷ device_word d ∷ decimal number ∷ codes "verdict" ∷ verdict_word verdict
+    ∷ new_word again ∷ codes "msg" ∷ decimal k ∷ []
 reply_words (reply.Settled d number again) = codes "settled" ∷ device_word d ∷ decimal number ∷ new_word again ∷ []
 reply_words (reply.Applied d number verdict) = codes "applied" ∷ device_word d ∷ decimal number ∷ codes "verdict" ∷ verdict_word verdict ∷ []
 reply_words (reply.Released d piece again k) = codes "released" ∷ device_word d ∷ decimal piece ∷ new_word again ∷ codes "msg" ∷ decimal k ∷ []
@@ -174,11 +168,11 @@ abbrev pub told_refusal : ScanRefusal → ScanRefusal
 told_refusal (scan.Unread fault) = scan.Unread (told_fault fault)
 told_refusal r = r
 
--- the reply of this report, if its text tells less than it has: the number in a fault of a mark
+-- the reply of this report, if its text shows less than it has: the number in a fault of a mark
 abbrev pub told_as : Report → Reply → Reply
 told_as (report.Refusal (OfVerifier r)) x = reply.ScanRefused (told_refusal r)
 told_as _ x = x
 
--- the reply as far as its text tells it
+-- the reply as far as its text shows it
 abbrev pub told : Reply → Reply
 told x = told_as (report_of x) x

@@ -22,7 +22,7 @@ fn read_alone(word: &[u8]) -> Result<Event, LineFault>
     }
 }
 
-// The event of a keyword and the words behind it.
+// The event of a keyword and the words after it.
 #[inline(never)]
 fn read_behind(keyword: Keyword, rest: &[u8]) -> Result<Event, LineFault>
     ensures read { IsEventBehind keyword (words_in rest.now) result }

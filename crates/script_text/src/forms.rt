@@ -1,10 +1,9 @@
-//! The lines of a script by their keywords: each reads the words behind the keyword.
+//! The lines of a script by their keywords: each reads the words after the keyword.
 ghost use Rattle.std.specs.Prelude.{◌≡◌, ℕ, [], ◌∷◌, ◌⊎◌, Ok, IfOk, OnErr};
 ghost use Rattle.bench_base.specs.Ranges.{IsDevice};
 ghost use Rattle.bench_base.specs.declared.words.Kind.{Kind};
-ghost use Rattle.script_words.specs.Words.{device_word, kind_word};
+ghost use Rattle.script_words.specs.Words.{device_word, kind_word, words_in};
 ghost use Rattle.script_text.specs.Reading.{IsEventBehind};
-ghost use Rattle.script_words.specs.Words.{words_in};
 ghost use Rattle.script_text.specs.declared.keyword.Keyword.{Keyword};
 
 use bench_base::bytes::Given;

@@ -35,7 +35,7 @@ pub enum Keyword {
     End,
 }
 
-/// The keyword of this word; None if and only if it is none.
+/// The keyword of this word; None if and only if it is no keyword.
 pub fn read_keyword(word: &[u8]) -> Option<Keyword>
     ensures read { MatchOption result ((k : Keyword) → word.now ≢ keyword_word k) (λ k. word.now ≡ keyword_word k) }
 {

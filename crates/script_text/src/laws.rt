@@ -1,7 +1,6 @@
 //! Laws of the lines: each is the contract of a call that does nothing.
 ghost use Rattle.std.specs.Prelude.{◌≡◌, ◌≢◌, ℕ, List, All};
-ghost use Rattle.bench_base.specs.declared.events.Event.{Event};
-ghost use Rattle.bench_base.specs.declared.events.Reply.{Reply};
+ghost use Rattle.bench_base.specs.declared.{events.Event.Event, events.Reply.Reply};
 ghost use Rattle.bench_base.specs.Events.{IsWholeEvent};
 ghost use Rattle.script_text.specs.Texts.{text_of, IsWholeReply, told};
 ghost use Rattle.script_text.specs.Grammar.{Spells, IsSkipped};
@@ -21,7 +20,7 @@ pub fn no_event_skipped()
     ensures law { (e : Event) (line : List ℕ) → Spells e line → IsSkipped line → ⊥ }
 {}
 
-/// A text is that of at most one whole reply, except for the number in a fault of a mark, which it doesn't tell.
+/// A text is that of at most one whole reply, except for the number in a fault of a mark, which it doesn't show.
 pub fn one_reply()
     ensures law { (r s : Reply) → IsWholeReply r → IsWholeReply s → text_of r ≡ text_of s → told r ≡ told s }
 {}

@@ -44,7 +44,7 @@ fn turns(word: &String) -> Option<u32>
     Some(count)
 }
 
-// The words behind `generate`.
+// The words after `generate`.
 fn generate(seed: &String, count: &String) -> Option<Words>
     ensures found { IfSome result (λ w. AreInRange w × (codes "generate" ∷ string_bytes seed.now ∷ string_bytes count.now ∷ [] ≡ program_words w)) }
     ensures none { IfNone result ((w : Words) → AreInRange w → codes "generate" ∷ string_bytes seed.now ∷ string_bytes count.now ∷ [] ≢ program_words w) }

@@ -1,4 +1,4 @@
-//! The text that stands in the report for a reply.
+//! The text of a reply in the report.
 ghost use Rattle.std.specs.Prelude.{◌≡◌, ◌+◌, ◌≤◌, ◌++◌, ◌∷◌, [], length, codes};
 ghost use Rattle.std.specs.Fmt.{signed_decimal};
 ghost use Rattle.script_words.specs.Words.{spaced};

@@ -27,7 +27,14 @@ impl Model for Summary {
 
     ghost view = { λ s. record { events = s.events; refused = s.refused; power = s.power; fault = s.fault; released = s.released; accepted = s.accepted } };
 
-    ghost invariant = { λ s. IsTally (record { events = s.events; refused = s.refused; power = s.power; fault = s.fault; released = s.released; accepted = s.accepted }) };
+    ghost invariant = { λ s. IsTally (record {
+      events = s.events;
+      refused = s.refused;
+      power = s.power;
+      fault = s.fault;
+      released = s.released;
+      accepted = s.accepted;
+    }) };
 
     ghost inverse = { λ s. record { events = s.events; refused = s.refused; power = s.power; fault = s.fault; released = s.released; accepted = s.accepted } };
 }

@@ -89,7 +89,7 @@ no_given w count dash half (b ∷ g) none e =
     let long : length w ≡ 2 * length (b ∷ g) = ap length e ∙ length-encode_with lower_digits (b ∷ g) in
     none (omega arith) (omega (arith, long, half)) e
 
--- digits that are written behind what stands there
+-- digits that are written after what is there
 pub put_behind : (len n : ℕ) (bytes digits : List ℕ) → len ≤ length bytes → length digits ≡ n → take (len + n) (put_mid len (len + n - len) bytes digits) ≡ take len bytes ++ digits
 put_behind len n bytes digits inside long =
     let rest : List ℕ = drop (len + n - len) (drop len bytes) in

@@ -1,10 +1,7 @@
 -- The words of a line, and how each kind of word is spelled.
 use Rattle.std.specs.Prelude.{ℕ, ◌≤◌, ◌⊎◌, List, [], ◌∷◌, ◌++◌, ◌==◌, if◌then◌else◌, Bool, true, false, codes, decimal}
 use Rattle.hex.specs.Hex.{encode_lower}
-use Rattle.bench_base.specs.declared.words.Kind.{Kind}
-use Rattle.bench_base.specs.declared.words.Kind.TheVariants.{Enrol, Reset, Audit, Refund, Withdraw}
-use Rattle.bench_base.specs.declared.words.Node.{Node}
-use Rattle.bench_base.specs.declared.words.Node.TheVariants.{Device, Centre, Host, Verifier}
+use Rattle.bench_base.specs.declared.{words.Kind.Kind, words.Kind.TheVariants.Enrol, words.Kind.TheVariants.Reset, words.Kind.TheVariants.Audit, words.Kind.TheVariants.Refund, words.Kind.TheVariants.Withdraw, words.Node.Node, words.Node.TheVariants.Device, words.Node.TheVariants.Centre, words.Node.TheVariants.Host, words.Node.TheVariants.Verifier}
 
 -- the words in a row, with one space before each
 abbrev pub spaced : List (List ℕ) → List ℕ
@@ -21,7 +18,7 @@ abbrev pub longer : ℕ → List (List ℕ) → List (List ℕ)
 longer c [] = []
 longer c (w ∷ ws) = (c ∷ w) ∷ ws
 
--- the words of a line: what stands before, between and behind its spaces
+-- the words of a line: what is before, between and after its spaces
 unfoldable pub words_in : List ℕ → List (List ℕ)
 words_in [] = [] ∷ []
 words_in (c ∷ line) = if c == 32 then [] ∷ words_in line else longer c (words_in line)

@@ -2,7 +2,7 @@
 ghost use Rattle.std.specs.Prelude.{◌≡◌, ◌≢◌, ℕ, List, [], ◌∷◌, ◌++◌, ◌<◌, ◌↔◌, IsTrue, IfSome, IfNone, IfOk, OnErr, MatchOption};
 ghost use Rattle.script_words.specs.Words.{words_in};
 
-/// The line is none that can be read.
+/// The line can't be read.
 #[derive(Clone, Copy, Debug, PartialEq, Eq)]
 pub struct LineFault;
 
@@ -27,7 +27,7 @@ pub fn is_word(word: &[u8], wanted: &[u8]) -> bool
     word == wanted
 }
 
-/// The bytes before the first space, and those behind it; None where there is no space.
+/// The bytes before the first space, and those after it; None if there is no space.
 pub fn split_word(bytes: &[u8]) -> Option<(&[u8], &[u8])>
     ensures split { MatchOption result (words_in bytes.now ≡ bytes.now ∷ [])
         (λ p. words_in bytes.now ≡ p.0.now ∷ words_in p.1.now) }
@@ -40,7 +40,7 @@ pub fn split_word(bytes: &[u8]) -> Option<(&[u8], &[u8])>
     None
 }
 
-/// The bytes behind this front.
+/// The bytes after this front.
 pub fn after<'a>(word: &'a [u8], front: &[u8]) -> Option<&'a [u8]>
     ensures split { MatchOption result ((rest : List ℕ) → word.now ≢ front.now ++ rest) (λ r. word.now ≡ front.now ++ r.now) }
 {

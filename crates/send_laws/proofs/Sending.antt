@@ -1,12 +1,8 @@
 -- The message that is sent for a job has the postage of its order.
 use Rattle.std.proofs.Common.{◌≡◌, ◌⊎◌, ℕ, ℤ, List, [], ◌∷◌, Option, Some, None, refl, sym, ap, inl, inr, arith}
 use Rattle.std.specs.Prelude.{Contains}
-use Rattle.bench_base.specs.declared.words.Node.TheVariants.{Host}
-use Rattle.bench_base.specs.declared.refusals.HostRefusal.{HostRefusal}
-use Rattle.bench_base.specs.declared.ledger.Commit.{Commit}
-use Rattle.bench_base.specs.declared.ledger.Commit.TheVariants.{Ordered}
+use Rattle.bench_base.specs.declared.{words.Node.TheVariants.Host, refusals.HostRefusal.HostRefusal, ledger.Commit.Commit, ledger.Commit.TheVariants.Ordered, events.Reply.Reply}
 use Rattle.bench_base.specs.declared.events.Event.TheVariants as ev
-use Rattle.bench_base.specs.declared.events.Reply.{Reply}
 use Rattle.bench_base.specs.declared.events.Reply.TheVariants as r
 use Rattle.bench_base.specs.Jobs.{Job, job_of}
 use Rattle.bench_base.specs.Ledger.{Ledger, day_in, messages, is_on, counted}

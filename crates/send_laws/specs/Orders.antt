@@ -1,7 +1,6 @@
 -- The postage of an order, and the message that is sent for it.
 use Rattle.std.specs.Prelude.{◌≡◌, ℕ, List, [], ◌∷◌, Option, Some, None, Ok}
-use Rattle.bench_base.specs.declared.ledger.Commit.{Commit}
-use Rattle.bench_base.specs.declared.ledger.Entry.TheVariants.{Sent}
+use Rattle.bench_base.specs.declared.{ledger.Commit.Commit, ledger.Entry.TheVariants.Sent}
 use Rattle.bench_base.specs.Jobs.{Job, job_of}
 use Rattle.bench_base.specs.Ledger.{Ledger, counted}
 use Rattle.psd_wire.specs.declared.message.DebitMsg.{DebitMsg}

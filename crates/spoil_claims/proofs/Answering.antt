@@ -4,8 +4,7 @@ use Rattle.std.specs.Prelude.{codes}
 use Rattle.std.proofs.lemmas.Bool.{false_from_ne_true}
 use Rattle.std.proofs.lemmas.Option.{same_Some}
 use Rattle.bench_base.specs.declared.events.Event.TheVariants as ev
-use Rattle.bench_base.specs.declared.events.Reply.{Reply}
-use Rattle.bench_base.specs.declared.refusals.StoreFail.{StoreFail}
+use Rattle.bench_base.specs.declared.{events.Reply.Reply, refusals.StoreFail.StoreFail}
 use Rattle.bench_base.specs.declared.refusals.StoreFail.TheVariants as fail
 use Rattle.bench_base.specs.Questions.{IsAccepted}
 use Rattle.indicium.specs.declared.Mark.{Mark}
@@ -18,9 +17,7 @@ use Rattle.script_text.specs.Texts.{text_of}
 use Rattle.line_extensions.specs.Trace.{StepRecord, Skipped, Did}
 use Rattle.line_extensions.specs.Desks.{World, world, Asks, Does}
 use Rattle.line_extensions.specs.SideTrace.{SideStep, Plain, Own, Broken}
-use Rattle.line_extensions.specs.declared.extension.Extension.{Ghosts}
-use Rattle.line_extensions.specs.declared.extension.Next.{Next}
-use Rattle.line_extensions.specs.declared.extension.Next.TheVariants.{Say, Stop}
+use Rattle.line_extensions.specs.declared.{extension.Extension.Ghosts, extension.Next.Next, extension.Next.TheVariants.Say, extension.Next.TheVariants.Stop}
 use Rattle.row_store.specs.Commits.{CommitsRow}
 use Rattle.row_store.specs.Seen.{seen_in}
 use Rattle.spoil_claims.specs.Answers.{IsTold, IsCreditedNow, IsScanned, IsAgain, IsNewTold, IsClaimTold, IsAnswered, IsCutCredit, IsNewCut, IsClaimCut, IsCutShort, AreAnswered}
@@ -32,11 +29,7 @@ use Rattle.spoil_claims.specs.Payload.{decoded, spelled}
 use Rattle.spoil_claims.specs.Texts.{said_texts, credited_text, credits_text, wrong_claim_text}
 use Rattle.spoil_claims.specs.View.{said_of, has_failed, rows_of, store_of, Rests}
 use Rattle.spoil_claims.specs.Waits.{IsWaiting}
-use Rattle.spoil_claims.specs.declared.claim.ClaimLine.{ClaimLine}
-use Rattle.spoil_claims.specs.declared.claim.ClaimLine.TheVariants.{Claim, Credits, Reserved}
-use Rattle.spoil_claims.specs.declared.claim.ClaimRow.{ClaimRow}
-use Rattle.spoil_claims.specs.declared.desk.Desk.{Desk}
-use Rattle.spoil_claims.specs.declared.answer.Answer.{Answer}
+use Rattle.spoil_claims.specs.declared.{claim.ClaimLine.ClaimLine, claim.ClaimLine.TheVariants.Claim, claim.ClaimLine.TheVariants.Credits, claim.ClaimLine.TheVariants.Reserved, claim.ClaimRow.ClaimRow, desk.Desk.Desk, answer.Answer.Answer}
 use Rattle.spoil_claims.specs.declared.answer.Answer.TheVariants as answers
 use Rattle.spoil_claims.proofs.Keeping.{rows_long, kept_inside, put_claim}
 use Rattle.line_extensions.proofs.Wanting.{no_step, no_say, step_event, ends_at}
@@ -108,7 +101,7 @@ module _ {N : Type 0} {g : nv.Ghosts N} where
         let end = ends_at (claims_desk g) Steps m new more rest Say asks (inr next) in
         absurd (no_say more next end.1)
 
-    -- a claim whose scan is awaited is kept under its number
+    -- if the scan of a claim is awaited, the claim is kept under its number
     is_here : (desk : Desk N g) (x : ClaimRow) → said_of desk ≡ answers.Scanning x.claim → kept (rows_of desk) x.claim ≡ Some x → IsHere (rows_of desk) x
     is_here desk x waits here = record { first = (subst (λ (s : Answer). IsWaiting (rows_of desk) s) waits desk.waits).0; here = here }
 

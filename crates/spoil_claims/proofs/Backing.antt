@@ -4,10 +4,8 @@ use Rattle.std.specs.List.{AllByRecursion}
 use Rattle.std.proofs.lemmas.Bool.{cases_eq, cases_lt}
 use Rattle.std.proofs.lemmas.List.{get_or_past, set_past}
 use Rattle.std.proofs.lemmas.Option.{same_Some}
-use Rattle.bench_base.specs.declared.events.Event.{Event}
+use Rattle.bench_base.specs.declared.{events.Event.Event, ledger.Entry.TheVariants.Begin, refusals.MarkFault.MarkFault}
 use Rattle.bench_base.specs.declared.events.Event.TheVariants as ev
-use Rattle.bench_base.specs.declared.ledger.Entry.TheVariants.{Begin}
-use Rattle.bench_base.specs.declared.refusals.MarkFault.{MarkFault}
 use Rattle.bench_base.specs.Ledger.{Ledger, IsReleased, counted}
 use Rattle.bench_base.specs.Replies.{class_of}
 use Rattle.bench_base.specs.Rules.{todays_rules}
@@ -40,9 +38,7 @@ use Rattle.spoil_claims.specs.Claims.{Claims, IsHere, claim_at, kept, last_claim
 use Rattle.spoil_claims.specs.ClaimsDesk.{claims_desk}
 use Rattle.spoil_claims.specs.Courses.{Either, row_for, as_credited}
 use Rattle.spoil_claims.specs.Holds.{IsCredited, IsClaimed, IsUsedUp, AreBacked}
-use Rattle.spoil_claims.specs.declared.claim.ClaimLine.{ClaimLine}
-use Rattle.spoil_claims.specs.declared.claim.ClaimLine.TheVariants.{Claim, Credits, Reserved}
-use Rattle.spoil_claims.specs.declared.claim.ClaimRow.{ClaimRow}
+use Rattle.spoil_claims.specs.declared.{claim.ClaimLine.ClaimLine, claim.ClaimLine.TheVariants.Claim, claim.ClaimLine.TheVariants.Credits, claim.ClaimLine.TheVariants.Reserved, claim.ClaimRow.ClaimRow}
 use Rattle.spoil_claims.proofs.Keeping.{put_claim}
 use Rattle.spoil_claims.proofs.Stopping.{IsCut, IsCutAfter}
 
@@ -97,7 +93,7 @@ opened rows x H none is_open lt b = record {
 from_1 : (c e : ℕ) → 1 ≤ c → 1 ≤ e → c - 1 ≡ e - 1 → c ≡ e
 from_1 c e first second same = omega (arith, first, second, same)
 
--- a claim whose piece was used up is committed as credited
+-- a claim with a piece that was used up is committed as credited
 credited_now : (rows : Claims) (x : ClaimRow) (k : Mark) (H : Ledger) → IsHere rows x → mark_of x.mark ≡ Some k → IsUsedUp x.claim x k H → AreBacked rows H → AreBacked (put rows (x.claim - 1) (as_credited x)) H
 credited_now rows x k H here reads used b =
     let lt = inside rows x here in

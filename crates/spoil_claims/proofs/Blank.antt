@@ -1,4 +1,4 @@
--- Blank storage shows no claim, and claims of which there is none are backed by what was accepted before.
+-- Blank storage shows no claim, and an empty list of claims is backed by what was accepted before.
 use Rattle.std.proofs.Common.{◌≡◌, ℕ, ◌-◌, ◌<◌, ◌≤◌, List, [], length, replicate, None, sym, ap, ◌∙◌, subst, arith}
 use Rattle.bench_base.specs.Ledger.{Ledger}
 use Rattle.bench_base.proofs.Facts.{some_none}
@@ -8,7 +8,8 @@ use Rattle.nv_model.specs.Moments.{Image, Nested, Only}
 use Rattle.nv_model.specs.declared.nv.Nv as nv
 use Rattle.nv_store.specs.Mounts.{Mounts}
 use Rattle.row_node.specs.Shows.{ShowsRows}
-use Rattle.row_store.proofs.Blank.{zeros_show, none_seen, still_only}
+use Rattle.row_node.proofs.Blank.{zeros_show}
+use Rattle.row_store.proofs.Blank.{none_seen, still_only}
 use Rattle.row_store.specs.Seen.{ReadsAs}
 use Rattle.spoil_claims.specs.Claims.{Claims, kept}
 use Rattle.spoil_claims.specs.Holds.{AreBacked}

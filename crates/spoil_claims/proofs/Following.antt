@@ -21,8 +21,7 @@ use Rattle.spoil_claims.specs.ClaimsDesk.{claims_desk}
 use Rattle.spoil_claims.specs.Follows.{TellsDebits, FollowLedger}
 use Rattle.spoil_claims.specs.Holds.{AreBacked, ClaimsHold}
 use Rattle.spoil_claims.specs.Texts.{credits_text}
-use Rattle.spoil_claims.specs.declared.claim.ClaimLine.{ClaimLine}
-use Rattle.spoil_claims.specs.declared.claim.ClaimLine.TheVariants.{Claim, Credits, Reserved}
+use Rattle.spoil_claims.specs.declared.{claim.ClaimLine.ClaimLine, claim.ClaimLine.TheVariants.Claim, claim.ClaimLine.TheVariants.Credits, claim.ClaimLine.TheVariants.Reserved}
 use Rattle.spoil_claims.proofs.Backing.{begun, passed, own_told, own_cut}
 use Rattle.spoil_claims.proofs.Holding.{claims_hold}
 

@@ -19,7 +19,7 @@ use Rattle.spoil_claims.specs.Claims.{Claims, claim_at, kept, mark_in, mark_of, 
 use Rattle.spoil_claims.specs.Holds.{IsCredited, AreBacked, debit_in, debit_of, ClaimsHold}
 use Rattle.spoil_claims.specs.declared.claim.ClaimRow.{ClaimRow}
 
--- what reads as a mark has its code behind it
+-- what reads as a mark has its MAC after it
 with_code : (o : Result (Mark × List ℕ) MarkFault) (k : Mark) → mark_in o ≡ Some k → (code : List ℕ) × (o ≡ Ok (k, code))
 with_code (Ok m) k is = (m.1, let same : m.0 ≡ k = same_Some _ _ is in ap (λ (x : Mark). Ok (x, m.1)) same)
 with_code (Err fault) k is = absurd (cc)

@@ -15,8 +15,7 @@ use Rattle.row_store.proofs.Kept.{row_read, some_held}
 use Rattle.spoil_claims.specs.Claims.{Claims, claim_at, kept, HasNoGaps, one_in, last_claim, credit_of, credits}
 use Rattle.spoil_claims.specs.Payload.{decoded, IsFit}
 use Rattle.spoil_claims.specs.Waits.{IsStored}
-use Rattle.spoil_claims.specs.declared.claim.ClaimRow.{ClaimRow}
-use Rattle.spoil_claims.specs.declared.claim.TheConstants.{CLAIM_CELLS}
+use Rattle.spoil_claims.specs.declared.{claim.ClaimRow.ClaimRow, claim.TheConstants.CLAIM_CELLS}
 use Rattle.spoil_claims.proofs.Payloads.{decoded_fits}
 
 -- == what is read ==
@@ -92,7 +91,7 @@ module _ (rows : Claims) (cell : ℕ) (x : ClaimRow) (lt : cell < length rows) w
     | inr differs ↦ ap (λ (o : Option ClaimRow). is_some o) (put_else k differs) ∙ some
   ]
 
-  -- no gap comes where the cell before it has a claim
+  -- no gap appears if the cell before it has a claim
   pub put_packed : HasNoGaps rows → ((k : ℕ) → k + 1 ≡ cell → IsSome (claim_at rows k)) → HasNoGaps (put rows cell x)
   put_packed packed before k some = elim (cases_eq (k + 1) cell) [
     | inl is ↦ still_some k (before k is)
@@ -134,7 +133,7 @@ pub below_last : (rows : Claims) → HasNoGaps rows → (k : ℕ) → k < last_c
 below_last [] packed k lt = absurd (omega (arith, lt))
 below_last (o ∷ rows) packed k lt = by_first o rows packed (below_last rows (rest_packed o rows packed)) (is_some (row_of o)) refl k lt
 
--- the next claim is committed to the cell behind the last one
+-- the next claim is committed to the cell after the last one
 pub next_packed : (rows : Claims) (x : ClaimRow) → HasNoGaps rows → x.claim ≡ last_claim rows + 1 → x.claim - 1 < length rows → HasNoGaps (put rows (x.claim - 1) x)
 next_packed rows x packed next lt = put_packed rows (x.claim - 1) x lt packed (λ k is. below_last rows packed k (omega (arith, is, next)))
 

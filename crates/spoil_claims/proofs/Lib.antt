@@ -5,7 +5,6 @@ mod Following
 mod Holding
 mod Keeping
 mod Meanwhile
-mod Nothing
 mod Payloads
 mod Reading
 mod Running

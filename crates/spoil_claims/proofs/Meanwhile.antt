@@ -7,8 +7,7 @@ use Rattle.line_extensions.specs.Desks.{World, Does}
 use Rattle.line_extensions.specs.Trace.{StepRecord}
 use Rattle.line_extensions.specs.Moves.{EachMove}
 use Rattle.line_extensions.specs.SideTrace.{SideStep}
-use Rattle.line_extensions.specs.declared.extension.Next.{Next}
-use Rattle.line_extensions.specs.declared.extension.Next.TheVariants.{Say}
+use Rattle.line_extensions.specs.declared.{extension.Next.Next, extension.Next.TheVariants.Say}
 use Rattle.line_extensions.proofs.Moving.{each_move}
 use Rattle.line_extensions.proofs.Stores.{shown_still, shown_commit}
 use Rattle.spoil_claims.specs.Claims.{kept, last_claim, credits}
@@ -17,12 +16,7 @@ use Rattle.spoil_claims.specs.Courses.{Either, row_for, as_credited, scan_of, Sa
 use Rattle.spoil_claims.specs.Payload.{decoded, spelled}
 use Rattle.spoil_claims.specs.Storage.{ShownMeanwhile}
 use Rattle.spoil_claims.specs.View.{said_of, has_failed, rows_of, view_of, Rests}
-use Rattle.spoil_claims.specs.declared.claim.ClaimLine.{ClaimLine}
-use Rattle.spoil_claims.specs.declared.claim.ClaimLine.TheVariants.{Claim, Credits, Reserved}
-use Rattle.spoil_claims.specs.declared.claim.ClaimRow.{ClaimRow}
-use Rattle.spoil_claims.specs.declared.claim.TheConstants.{CLAIM_CELLS}
-use Rattle.spoil_claims.specs.declared.desk.Desk.{Desk}
-use Rattle.spoil_claims.specs.declared.answer.Answer.{Answer}
+use Rattle.spoil_claims.specs.declared.{claim.ClaimLine.ClaimLine, claim.ClaimLine.TheVariants.Claim, claim.ClaimLine.TheVariants.Credits, claim.ClaimLine.TheVariants.Reserved, claim.ClaimRow.ClaimRow, claim.TheConstants.CLAIM_CELLS, desk.Desk.Desk, answer.Answer.Answer}
 use Rattle.spoil_claims.specs.declared.answer.Answer.TheVariants as answers
 use Rattle.spoil_claims.proofs.Stopping.{commit_of, shows_now}
 

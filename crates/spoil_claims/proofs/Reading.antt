@@ -14,12 +14,11 @@ use Rattle.script_text.proofs.EachEvent.{words_spelled, one_event_of}
 use Rattle.script_text.proofs.ReadBack.{given_in, given_again, given_is}
 use Rattle.line_extensions.specs.Events.{IsLineOf}
 use Rattle.spoil_claims.specs.ClaimLines.{IsClaim, IsClaimLine, IsScan}
-use Rattle.spoil_claims.specs.declared.claim.ClaimLine.{ClaimLine}
-use Rattle.spoil_claims.specs.declared.claim.ClaimLine.TheVariants.{Claim, Credits, Reserved}
+use Rattle.spoil_claims.specs.declared.{claim.ClaimLine.ClaimLine, claim.ClaimLine.TheVariants.Claim, claim.ClaimLine.TheVariants.Credits, claim.ClaimLine.TheVariants.Reserved}
 
 -- == a claim's words ==
 
--- and so is the mark
+-- the mark is the same too
 pub one_mark : (ws : List (List ℕ)) (c d x y : List ℕ) (g mark : List ℕ) → IsBytes g → IsBytes mark → length mark ≡ 64
     → ws ≡ c ∷ x ∷ given_word g ∷ [] → ws ≡ d ∷ y ∷ hex_word mark ∷ [] → g ≡ mark
 one_mark ws c d x y g mark bytes bytes' long is is' =
@@ -82,7 +81,7 @@ scan_words n line scan = elim scan [
   | inr s ↦ (_, _, words_spelled (ev.ScanHex n s.0) line s.1.whole s.1.spells)
 ]
 
--- it has that word, and another behind it
+-- it has that word, and another after it
 pub words_for : (own : ClaimLine) (line : List ℕ) → IsClaimLine own line → (v : List ℕ) × (ws : List (List ℕ)) × (words_in line ≡ word_for own ∷ v ∷ ws)
 words_for (Claim c w mark) line is = (_, _, is.1)
 words_for (Credits w) line is = (_, _, is.1)
@@ -98,11 +97,11 @@ pub none_of : {A : Type 0} {P Q : Type 0} (o : Option A) → (P → Q) → IfNon
 none_of None f h = f h
 none_of (Some x) f h = h
 
--- the words behind the first
+-- the words after the first
 pub tail_is : (line word : List ℕ) (rest ws : List (List ℕ)) (first : List ℕ) → words_in line ≡ word ∷ rest → words_in line ≡ first ∷ ws → rest ≡ ws
 tail_is line word rest ws first is other = let two : word ∷ rest ≡ first ∷ ws = sym is ∙ other in cc
 
--- the first word tells the lines apart
+-- the first word distinguishes the lines
 credits_differ : codes "claim" ≡ codes "credits" → ⊥
 credits_differ is = let at : 108 ≡ 114 = ap (λ (l : List ℕ). get_or l 1 0) is in omega (arith, at)
 
@@ -113,20 +112,20 @@ scan_credits_differ : codes "credits" ≡ codes "scan" → ⊥
 scan_credits_differ is = let at : 99 ≡ 115 = ap (λ (l : List ℕ). get_or l 0 0) is in omega (arith, at)
 
 module _ (line word rest : List ℕ) (split : words_in line ≡ word ∷ words_in rest) where
-  -- behind `claim`
+  -- after `claim`
   pub claim_none : word ≡ codes "claim" → ((c w : ℕ) (mark : List ℕ) → IsClaim c w mark → words_in rest ≡ decimal c ∷ decimal w ∷ hex_word mark ∷ [] → ⊥)
       → (own : ClaimLine) → IsClaimLine own line → ⊥
   claim_none is none (Claim c w mark) here = none c w mark here.0 (tail_is line word (words_in rest) _ _ split here.1)
   claim_none is none (Credits w) here = credits_differ (sym is ∙ only_word line word (words_in rest) split (Credits w) here)
   claim_none is none Reserved here = scan_differs (sym is ∙ only_word line word (words_in rest) split Reserved here)
 
-  -- behind `credits`
+  -- after `credits`
   pub credits_none : word ≡ codes "credits" → ((w : ℕ) → IsCustomer w → words_in rest ≡ decimal w ∷ [] → ⊥) → (own : ClaimLine) → IsClaimLine own line → ⊥
   credits_none is none (Claim c w mark) here = credits_differ (sym (only_word line word (words_in rest) split (Claim c w mark) here) ∙ is)
   credits_none is none (Credits w) here = none w here.0 (tail_is line word (words_in rest) _ _ split here.1)
   credits_none is none Reserved here = scan_credits_differ (sym is ∙ only_word line word (words_in rest) split Reserved here)
 
-  -- behind another word
+  -- after another word
   pub others_none : (word ≡ codes "claim" → ⊥) → (word ≡ codes "credits" → ⊥) → (word ≡ codes "scan" → ((n : ℕ) × (3000000000 < n) × IsScan n line) → ⊥)
       → (own : ClaimLine) → IsClaimLine own line → ⊥
   others_none no_claims no_credits no_scan (Claim c w mark) here = no_claims (only_word line word (words_in rest) split (Claim c w mark) here)

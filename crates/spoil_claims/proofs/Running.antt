@@ -1,5 +1,5 @@
 -- What a run with claims did, by what desk and bench did of its lines.
-use Rattle.std.proofs.Common.{◌≡◌, inl, inr, List, ◌∷◌, refl, sym, ap, ◌∙◌, subst, Option, Some, None, Bool, true, false, true≢false}
+use Rattle.std.proofs.Common.{◌≡◌, inl, inr, List, ◌∷◌, refl, sym, ap, ◌∙◌, subst, Option, Some, None, Bool, true, false, true≢false, []}
 use Rattle.std.specs.Prelude.{IfSome}
 use Rattle.bench_base.specs.declared.ledger.Entry.TheVariants.{Begin}
 use Rattle.bench_base.specs.Ledger.{Ledger}
@@ -11,11 +11,10 @@ use Rattle.std.specs.List.{AllByRecursion}
 use Rattle.bench_base.specs.Rules.{editions}
 use Rattle.nv_model.specs.declared.nv.Nv as nv
 use Rattle.ledger_terms.specs.Editions.{Editions}
-use Rattle.bench.specs.Benches.{Nodes}
+use Rattle.bench.specs.Benches.{Nodes, Stands}
 use Rattle.line_runs.specs.Trace.{Lines, Reads}
 use Rattle.line_runs.specs.declared.status.Status.TheVariants as status
-use Rattle.line_runs.specs.declared.status.SideStatus.{SideStatus}
-use Rattle.line_runs.specs.declared.status.SideStatus.TheVariants.{Run}
+use Rattle.line_runs.specs.declared.{status.SideStatus.SideStatus, status.SideStatus.TheVariants.Run}
 use Rattle.line_extensions.specs.Desks.{World, world, side_lines}
 use Rattle.line_extensions.specs.SideTrace.{SideStep, steps_of}
 use Rattle.script_replay.specs.Chains.{SceneOf, scene}
@@ -32,9 +31,7 @@ use Rattle.line_extensions.specs.Stops.{HasBroken}
 use Rattle.line_extensions.proofs.Lines.{AtLast}
 use Rattle.spoil_claims.specs.Storage.{with_torn, LeavesStorage}
 use Rattle.spoil_claims.specs.View.{has_failed, rows_of}
-use Rattle.spoil_claims.specs.declared.claim.ClaimLine.{ClaimLine}
-use Rattle.spoil_claims.specs.declared.claim.ClaimRow.{ClaimRow}
-use Rattle.spoil_claims.specs.declared.desk.Desk.{Desk}
+use Rattle.spoil_claims.specs.declared.{claim.ClaimLine.ClaimLine, claim.ClaimRow.ClaimRow, desk.Desk.Desk}
 use Rattle.spoil_claims.proofs.Answering.{all_answered}
 use Rattle.spoil_claims.proofs.Backing.{backed_after, torn_backed}
 use Rattle.spoil_claims.proofs.Following.{follow_all}
@@ -42,6 +39,9 @@ use Rattle.spoil_claims.proofs.Holding.{claims_hold}
 use Rattle.spoil_claims.proofs.Meanwhile.{all_shown}
 use Rattle.spoil_claims.proofs.Stopping.{shows_now, Goes, BreaksBy, IsCutAfter, Ends, all_end}
 use Rattle.line_extensions.proofs.Wanting.{desk_left}
+use Rattle.script_replay.proofs.Nothing.{stands_for_none, bench_fresh}
+use Rattle.spoil_claims.specs.Fresh.{DidFreshClaims, KeepsNone}
+use Rattle.spoil_claims.proofs.Blank.{none_backed, nothing_accepted}
 
 abbrev Read : {N : Type 0} → nv.Ghosts N → Lines (SideStep ClaimLine)
 Read own = side_lines (claims_desk own)
@@ -137,4 +137,22 @@ module _ {N : Type 0} (n : Nodes) (own : nv.Ghosts N) (nested : (s : N) → own.
               claims_hold today τ _ history (with_torn is_left.torn (rows_of new.desk))
                   (with_torn_backed τ is_left.torn (rows_of new.desk) (Begin ∷ L) (steps_of trace) unforged over.run is_left.cut b),
             );
+      }
+
+-- == from nothing ==
+
+module _ (n : Nodes) {N : Type 0} (own : nv.Ghosts N) (old new : SceneOf n) (before after : Desk N own) (stands : Stands n old.bench []) (tells : n.storage.tells) (none : KeepsNone before)
+    (works : has_failed before ≡ false) (outcome : SideStatus) where
+  pub claims_fresh : (trace : List (SideStep ClaimLine)) → DidClaims n own (world old before) (world new after) outcome trace → DidFreshClaims n own old new outcome trace
+  claims_fresh trace did =
+      let backed : AreBacked (rows_of before) [] = none_backed (rows_of before) [] none nothing_accepted in
+      record {
+        before = before;
+        after = after;
+        none = none;
+        works = works;
+        did = did;
+        bench = bench_fresh n old new stands did.side.ended (steps_of trace) did.side.bench tells;
+        follows = λ τ texts. did.follows τ [] texts (stands_for_none n old new stands τ) tells backed;
+        holds = λ τ texts unforged. did.holds τ [] texts (stands_for_none n old new stands τ) tells backed unforged;
       }

@@ -2,8 +2,7 @@
 use Rattle.std.proofs.Common.{◌≡◌, ◌⊎◌, inl, inr, ℕ, ◌+◌, ◌-◌, List, [], ◌∷◌, ◌++◌, Option, Some, None, Result, Ok, Err, Bool, true, false, ◌==◌, refl, sym, ap, ◌∙◌, subst}
 use Rattle.std.proofs.lemmas.List.{append_assoc, append-nil}
 use Rattle.std.proofs.lemmas.Option.{same_Some}
-use Rattle.bench_base.specs.declared.events.Reply.{Reply}
-use Rattle.bench_base.specs.declared.refusals.StoreFail.{StoreFail}
+use Rattle.bench_base.specs.declared.{events.Reply.Reply, refusals.StoreFail.StoreFail}
 use Rattle.bench_base.specs.declared.refusals.StoreFail.TheVariants as fail
 use Rattle.bench_base.specs.Questions.{IsAccepted}
 use Rattle.nv_model.specs.Moments.{Image, Nested}
@@ -22,8 +21,7 @@ use Rattle.line_extensions.specs.Trace.{StepRecord, Skipped, Did}
 use Rattle.line_extensions.specs.Desks.{World, world, Asks, Does}
 use Rattle.line_extensions.specs.SideTrace.{SideStep, Plain, Own, Broken, steps_in, steps_of}
 use Rattle.line_extensions.specs.Wants.{IsStep}
-use Rattle.line_extensions.specs.declared.extension.Next.{Next}
-use Rattle.line_extensions.specs.declared.extension.Next.TheVariants.{Say, Stop}
+use Rattle.line_extensions.specs.declared.{extension.Next.Next, extension.Next.TheVariants.Say, extension.Next.TheVariants.Stop}
 use Rattle.line_extensions.specs.Stops.{HasBroken, RowCommit}
 use Rattle.line_extensions.proofs.Stores as stores
 use Rattle.line_extensions.proofs.Lines.{BrokenLast}
@@ -34,12 +32,7 @@ use Rattle.spoil_claims.specs.Courses.{Either, row_for, as_credited, scan_of, Fo
 use Rattle.spoil_claims.specs.Payload.{decoded, spelled}
 use Rattle.spoil_claims.specs.Storage.{IsUntouched}
 use Rattle.spoil_claims.specs.View.{said_of, has_failed, rows_of, storage_of, store_of, view_of, Rests}
-use Rattle.spoil_claims.specs.declared.claim.ClaimLine.{ClaimLine}
-use Rattle.spoil_claims.specs.declared.claim.ClaimLine.TheVariants.{Claim, Credits, Reserved}
-use Rattle.spoil_claims.specs.declared.claim.ClaimRow.{ClaimRow}
-use Rattle.spoil_claims.specs.declared.claim.TheConstants.{CLAIM_CELLS}
-use Rattle.spoil_claims.specs.declared.desk.Desk.{Desk}
-use Rattle.spoil_claims.specs.declared.answer.Answer.{Answer}
+use Rattle.spoil_claims.specs.declared.{claim.ClaimLine.ClaimLine, claim.ClaimLine.TheVariants.Claim, claim.ClaimLine.TheVariants.Credits, claim.ClaimLine.TheVariants.Reserved, claim.ClaimRow.ClaimRow, claim.TheConstants.CLAIM_CELLS, desk.Desk.Desk, answer.Answer.Answer}
 use Rattle.spoil_claims.specs.declared.answer.Answer.TheVariants as answers
 use Rattle.spoil_claims.proofs.Answering.{rests_rows, open_kept, scan_cut}
 use Rattle.line_extensions.proofs.Wanting.{no_step, no_say, ends_at}
@@ -62,7 +55,7 @@ either_any false f h either = h either
 
 -- == a commit that failed ==
 
--- it was of a new claim as open, or of one as credited whose scan was accepted
+-- it was of a new claim as open, or of one as credited after its scan was accepted
 abbrev pub IsCut : ClaimRow → Claims → List StepRecord → Type 0
 IsCut x rows steps = ((kept rows x.claim ≡ None) × (x.credited ≡ false)) ⊎ ((y : ClaimRow) × (x ≡ as_credited y) × IsCutCredit y rows steps)
 

@@ -11,9 +11,7 @@ use Rattle.spoil_claims.specs.ClaimLines.{IsClaimLine}
 use Rattle.spoil_claims.specs.Claims.{Claims, IsHere, kept, scan_number, last_claim, mark_of, credits}
 use Rattle.spoil_claims.specs.Courses.{Either, IsSame, row_for, as_credited}
 use Rattle.spoil_claims.specs.Texts.{credited_text, credits_text, wrong_claim_text}
-use Rattle.spoil_claims.specs.declared.claim.ClaimRow.{ClaimRow}
-use Rattle.spoil_claims.specs.declared.claim.ClaimLine.{ClaimLine}
-use Rattle.spoil_claims.specs.declared.claim.ClaimLine.TheVariants.{Claim, Credits, Reserved}
+use Rattle.spoil_claims.specs.declared.{claim.ClaimRow.ClaimRow, claim.ClaimLine.ClaimLine, claim.ClaimLine.TheVariants.Claim, claim.ClaimLine.TheVariants.Credits, claim.ClaimLine.TheVariants.Reserved}
 
 -- it was answered so, and nothing was done
 pub record IsTold (answer : List ℕ) (rows : Claims) (steps : List StepRecord) (texts : List (List ℕ)) (after : Claims) : Type 0 where
@@ -75,7 +73,7 @@ IsAnswered (Claim c w mark) rows steps texts after = IsClaimTold (kept rows c) c
 IsAnswered (Credits w) rows steps texts after = IsTold (credits_text w (credits w rows)) rows steps texts after
 IsAnswered Reserved rows steps texts after = IsTold (codes "refused claim reserved") rows steps texts after
 
--- == a line at which a commit failed ==
+-- == a line with a commit that failed ==
 
 -- the open claim was scanned and the piece accepted, and its commit as credited failed
 pub record IsCutCredit (x : ClaimRow) (rows : Claims) (steps : List StepRecord) : Type 0 where
@@ -98,7 +96,7 @@ IsCutShort (Claim c w mark) rows steps after = IsClaimCut (kept rows c) c w mark
 IsCutShort (Credits w) rows steps after = ⊥
 IsCutShort Reserved rows steps after = ⊥
 
--- each line in turn; one that is left to the bench is none of the desk's
+-- each line in turn; a line that is left to the bench is no line of the desk
 abbrev pub AreAnswered : Claims → List (SideStep ClaimLine) → Claims → Type 0
 AreAnswered rows [] after = after ≡ rows
 AreAnswered rows (Plain (Skipped line) ∷ rest) after = AreAnswered rows rest after

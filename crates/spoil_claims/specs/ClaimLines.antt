@@ -6,8 +6,7 @@ use Rattle.bench_base.specs.declared.events.Event.TheVariants as ev
 use Rattle.indicium.specs.Marks.{read_mark}
 use Rattle.script_words.specs.Words.{words_in, hex_word}
 use Rattle.line_extensions.specs.Events.{IsLineOf}
-use Rattle.spoil_claims.specs.declared.claim.ClaimLine.{ClaimLine}
-use Rattle.spoil_claims.specs.declared.claim.ClaimLine.TheVariants.{Claim, Credits, Reserved}
+use Rattle.spoil_claims.specs.declared.{claim.ClaimLine.ClaimLine, claim.ClaimLine.TheVariants.Claim, claim.ClaimLine.TheVariants.Credits, claim.ClaimLine.TheVariants.Reserved}
 
 -- the line is that of a scan under this number
 abbrev pub IsScan : ℕ → List ℕ → Type 0

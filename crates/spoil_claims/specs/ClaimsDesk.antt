@@ -7,8 +7,7 @@ use Rattle.spoil_claims.specs.ClaimLines.{IsClaimLine}
 use Rattle.spoil_claims.specs.Courses.{Begins, GoesOn}
 use Rattle.spoil_claims.specs.Texts.{said_texts}
 use Rattle.spoil_claims.specs.View.{said_of}
-use Rattle.spoil_claims.specs.declared.claim.ClaimLine.{ClaimLine}
-use Rattle.spoil_claims.specs.declared.desk.Desk.{Desk}
+use Rattle.spoil_claims.specs.declared.{claim.ClaimLine.ClaimLine, desk.Desk.Desk}
 
 abbrev pub claims_desk : {N : Type 0} (g : nv.Ghosts N) → Ghosts (Desk N g) Reply
 claims_desk g = record {

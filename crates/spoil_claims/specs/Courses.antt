@@ -1,24 +1,18 @@
 -- What the desk does for an own line: before its scan, and after it.
 use Rattle.std.specs.Prelude.{◌≡◌, ◌⊎◌, ℕ, ◌+◌, ◌-◌, List, Bool, true, false, Option, Some, None, Result, Ok, Err, ◌==◌}
 use Rattle.bench_base.specs.declared.events.Event.TheVariants as ev
-use Rattle.bench_base.specs.declared.events.Reply.{Reply}
-use Rattle.bench_base.specs.declared.refusals.StoreFail.{StoreFail}
+use Rattle.bench_base.specs.declared.{events.Reply.Reply, refusals.StoreFail.StoreFail}
 use Rattle.bench_base.specs.declared.refusals.StoreFail.TheVariants as fail
 use Rattle.bench_base.specs.Questions.{IsAccepted}
 use Rattle.indicium.specs.declared.Mark.{Mark}
 use Rattle.nv_model.specs.declared.nv.Nv.{Ghosts}
 use Rattle.nv_store.specs.Fails.{ends_failed}
-use Rattle.line_extensions.specs.declared.extension.Next.{Next}
-use Rattle.line_extensions.specs.declared.extension.Next.TheVariants.{Step, Say, Stop}
+use Rattle.line_extensions.specs.declared.{extension.Next.Next, extension.Next.TheVariants.Step, extension.Next.TheVariants.Say, extension.Next.TheVariants.Stop}
 use Rattle.row_store.specs.Commits.{CommitsRow}
 use Rattle.spoil_claims.specs.Claims.{kept, last_claim, credits, mark_of, scan_number}
 use Rattle.spoil_claims.specs.Payload.{decoded, spelled}
 use Rattle.spoil_claims.specs.View.{said_of, has_failed, rows_of, store_of, Rests}
-use Rattle.spoil_claims.specs.declared.claim.ClaimLine.{ClaimLine}
-use Rattle.spoil_claims.specs.declared.claim.ClaimLine.TheVariants.{Claim, Credits, Reserved}
-use Rattle.spoil_claims.specs.declared.claim.ClaimRow.{ClaimRow}
-use Rattle.spoil_claims.specs.declared.desk.Desk.{Desk}
-use Rattle.spoil_claims.specs.declared.answer.Answer.{Answer}
+use Rattle.spoil_claims.specs.declared.{claim.ClaimLine.ClaimLine, claim.ClaimLine.TheVariants.Claim, claim.ClaimLine.TheVariants.Credits, claim.ClaimLine.TheVariants.Reserved, claim.ClaimRow.ClaimRow, desk.Desk.Desk, answer.Answer.Answer}
 use Rattle.spoil_claims.specs.declared.answer.Answer.TheVariants as answers
 
 abbrev pub row_for : ℕ → ℕ → List ℕ → ClaimRow
@@ -83,13 +77,13 @@ module _ {N : Type 0} {g : Ghosts N} where
     pub is : mark_of x.mark ≡ Some mark
     pub says : Says (answers.Credited c mark true) old next new
 
-  -- a claim whose number is kept
+  -- a claim with a number that is kept
   abbrev pub Known : ℕ → ℕ → List ℕ → ClaimRow → Desk N g → Next → Desk N g → Type 0
   Known c w mark x old next new =
       (IsSame w mark x × Either x.credited (Repeats c x old next new) (Scans x old next new))
       ⊎ ((IsSame w mark x → ⊥) × Says answers.Conflict old next new)
 
-  -- one whose number is not
+  -- one with a number that is not kept
   abbrev pub Unknown : ℕ → ℕ → List ℕ → Desk N g → Next → Desk N g → Type 0
   Unknown c w mark old next new =
       Either (c == last_claim (rows_of old) + 1)

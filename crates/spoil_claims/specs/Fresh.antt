@@ -18,15 +18,15 @@ use Rattle.spoil_claims.specs.Holds.{ClaimsHold}
 use Rattle.spoil_claims.specs.Ran.{DidClaims}
 use Rattle.spoil_claims.specs.Storage.{with_torn}
 use Rattle.spoil_claims.specs.View.{rows_of, has_failed}
-use Rattle.spoil_claims.specs.declared.claim.ClaimLine.{ClaimLine}
-use Rattle.spoil_claims.specs.declared.desk.Desk.{Desk}
+use Rattle.spoil_claims.specs.declared.{claim.ClaimLine.ClaimLine, desk.Desk.Desk}
 
 -- the desk keeps no claim
 abbrev pub KeepsNone : {N : Type 0} {own : nv.Ghosts N} → Desk N own → Type 0
 KeepsNone desk = (c : ℕ) → kept (rows_of desk) c ≡ None
 
 -- A desk without a claim, and a bench that represented the empty ledger, did the steps: all that is said of a run with claims by a history is so.
-pub record DidFreshClaims (n : Nodes) {N : Type 0} (own : nv.Ghosts N) (old new : SceneOf n) (outcome : SideStatus) (trace : List (SideStep ClaimLine)) : Type 0 where
+pub record DidFreshClaims (n : Nodes) {N : Type 0} (own : nv.Ghosts N) (old new : SceneOf n) (outcome : SideStatus)
+    (trace : List (SideStep ClaimLine)) : Type 0 where
   pub before : Desk N own
   pub after : Desk N own
   pub none : KeepsNone before

@@ -1,7 +1,6 @@
 -- What is promised of claims, by a ledger.
 use Rattle.std.specs.Prelude.{◌≡◌, ◌<◌, ◌≤◌, ℕ, List, Option, Some, None, true, ◌==◌, ◌&&◌, if◌then◌else◌, sum_by, unwrap_or, Contains}
-use Rattle.bench_base.specs.declared.ledger.Commit.{Commit}
-use Rattle.bench_base.specs.declared.ledger.Commit.TheVariants.{Accepted}
+use Rattle.bench_base.specs.declared.{ledger.Commit.Commit, ledger.Commit.TheVariants.Accepted}
 use Rattle.bench_base.specs.Ledger.{Ledger, IsReleased, counted}
 use Rattle.bench_base.specs.Scans.{accepted}
 use Rattle.indicium.specs.declared.Mark.{Mark}
@@ -33,8 +32,8 @@ pub record IsUsedUp (c : ℕ) (x : ClaimRow) (k : Mark) (H : Ledger) : Type 0 wh
   pub released : IsReleased x.mark H
   pub accepted : accepted k.device k.piece (counted H) ≡ Some (scan_number c)
 
--- THE PREMISES ON CLAIMS OF EARLIER RUNS, by what they left: each piece that was accepted under a number above 3,000,000,000, also by a commit that is
--- open, was that of a claim; and the piece of each credited claim was used up
+-- THE PREMISES ON CLAIMS OF EARLIER RUNS, by what they left. Each piece that was accepted under a number above 3,000,000,000, also by a commit that
+-- is open, was that of a claim. The piece of each credited claim was used up.
 pub record AreBacked (rows : Claims) (L : Ledger) : Type 0 where
   pub reserved : EachAccepted (λ d p n. 3000000000 < n → IsClaimed rows d p n) L
   pub credited : (c : ℕ) (x : ClaimRow) (k : Mark) → IsCredited rows c x k → IsUsedUp c x k L
@@ -52,8 +51,8 @@ debit_of w C (Some x) = if x.credited && (x.customer == w) then debit_in C (mark
 abbrev pub debited_credits : ℕ → Claims → List Commit → ℕ
 debited_credits w rows C = sum_by (λ o. debit_of w C (row_of o)) rows
 
--- WHAT IS PROMISED: a credited piece was accepted under the number of its claim and no other, so it is no mail; no piece is credited twice; and what is
--- credited is the postage that was debited. So it is after a next run too, whose premises these are.
+-- WHAT IS PROMISED: a credited piece was accepted under the number of its claim and no other, so it is no mail; no piece is credited twice; and what
+-- is credited is the postage that was debited. The premises of a next run hold then, so the same is true after it.
 pub record ClaimsHold (rows : Claims) (H : Ledger) : Type 0 where
   pub used : (c : ℕ) (x : ClaimRow) (k : Mark) → IsCredited rows c x k → accepted k.device k.piece (counted H) ≡ Some (scan_number c)
   pub once : (c e : ℕ) (x y : ClaimRow) (k l : Mark) → IsCredited rows c x k → IsCredited rows e y l → k.device ≡ l.device → k.piece ≡ l.piece → c ≡ e

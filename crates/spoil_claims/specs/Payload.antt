@@ -5,7 +5,7 @@ use Rattle.bench_base.specs.Table.{Size, One, Four, row, values}
 use Rattle.indicium.specs.Marks.{read_mark}
 use Rattle.spoil_claims.specs.declared.claim.ClaimRow.{ClaimRow}
 
--- claim, customer and state; behind them lies the mark
+-- claim, customer and state; the mark follows them
 abbrev pub claim_table : List Size
 claim_table = Four ∷ Four ∷ One ∷ []
 

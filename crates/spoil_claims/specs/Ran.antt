@@ -21,16 +21,15 @@ use Rattle.spoil_claims.specs.Follows.{FollowLedger}
 use Rattle.spoil_claims.specs.Holds.{AreBacked, ClaimsHold}
 use Rattle.spoil_claims.specs.Storage.{LeavesStorage, ShownMeanwhile, with_torn}
 use Rattle.spoil_claims.specs.View.{rows_of}
-use Rattle.spoil_claims.specs.declared.claim.ClaimLine.{ClaimLine}
-use Rattle.spoil_claims.specs.declared.claim.ClaimRow.{ClaimRow}
-use Rattle.spoil_claims.specs.declared.desk.Desk.{Desk}
+use Rattle.spoil_claims.specs.declared.{claim.ClaimLine.ClaimLine, claim.ClaimRow.ClaimRow, desk.Desk.Desk}
 
 -- The desk and the bench did the steps, and each line about claims has its answer, by the claims that were kept then and by the reply to its scan. A
--- commit may have been torn: then a later boot finds the claims without it or with it. At every moment of the run each image shows the claims that are kept then, or these
--- with the one commit in hand. By a history for which the bench stood, and where the claims of
--- earlier runs are backed by it, the claims that are kept at each line hold by the ledger so far, and `credits` is answered by it, up to the first
--- forged event. Where nothing was forged, either of these claims hold by the ledger that the steps leave.
-pub record DidClaims (n : Nodes) {N : Type 0} (own : nv.Ghosts N) (old new : World (SceneOf n) (Desk N own)) (outcome : SideStatus) (trace : List (SideStep ClaimLine)) : Type 0 where
+-- commit may be in doubt: a later boot then finds the claims without it or with it. At every crash point of the run the possible contents show the
+-- claims that are kept then, or these with the one commit in hand. Suppose that the bench represented a history, and that the claims of earlier runs
+-- are backed by it. Then the claims that are kept at each line hold by the ledger so far, and `credits` is answered by it, up to the first forged
+-- event. If nothing was forged, the claims without the commit in doubt and those with it hold by the ledger that the steps leave.
+pub record DidClaims (n : Nodes) {N : Type 0} (own : nv.Ghosts N) (old new : World (SceneOf n) (Desk N own)) (outcome : SideStatus)
+    (trace : List (SideStep ClaimLine)) : Type 0 where
   pub side : DidSide n (claims_desk own) old new outcome trace
   pub answers : AreAnswered (rows_of old.desk) trace (rows_of new.desk)
   pub follows : (τ : Tariff) (L : Ledger) → IsOfTexts τ → StandsFor n τ old.scene.bench L → n.storage.tells → AreBacked (rows_of old.desk) L

@@ -4,8 +4,7 @@ use Rattle.bench_base.specs.Causes.{Rose}
 use Rattle.nv_model.specs.Meters.{Meters, WasCut}
 use Rattle.nv_model.specs.Moments.{Image}
 use Rattle.nv_model.specs.declared.nv.Nv.{Ghosts}
-use Rattle.line_runs.specs.declared.status.SideStatus.{SideStatus}
-use Rattle.line_runs.specs.declared.status.SideStatus.TheVariants.{Stopped}
+use Rattle.line_runs.specs.declared.{status.SideStatus.SideStatus, status.SideStatus.TheVariants.Stopped}
 use Rattle.line_extensions.specs.SideTrace.{SideStep}
 use Rattle.line_extensions.specs.Stops as stops
 use Rattle.line_extensions.specs.Stops.{HasBroken}
@@ -15,10 +14,7 @@ use Rattle.row_node.specs.Shows.{ShowsRows}
 use Rattle.spoil_claims.specs.Claims.{Claims}
 use Rattle.spoil_claims.specs.Payload.{decoded}
 use Rattle.spoil_claims.specs.View.{storage_of, has_failed, rows_of, view_of}
-use Rattle.spoil_claims.specs.declared.claim.ClaimLine.{ClaimLine}
-use Rattle.spoil_claims.specs.declared.claim.ClaimRow.{ClaimRow}
-use Rattle.spoil_claims.specs.declared.claim.TheConstants.{CLAIM_CELLS}
-use Rattle.spoil_claims.specs.declared.desk.Desk.{Desk}
+use Rattle.spoil_claims.specs.declared.{claim.ClaimLine.ClaimLine, claim.ClaimRow.ClaimRow, claim.TheConstants.CLAIM_CELLS, desk.Desk.Desk}
 
 -- the claims with the commit that was torn, if one was
 abbrev pub with_torn : Option ClaimRow → Claims → Claims
@@ -45,7 +41,8 @@ module _ {N : Type 0} {g : Ghosts N} where
     -- where one had failed before, this one answered Failed, and nothing was written
     pub before : has_failed old ≡ true → (torn ≡ None) × IsUntouched old new
     -- otherwise it answered Power, where power was cut, or Fault, where the count of faults rose; and it is the one that was torn
-    pub why : has_failed old ≡ false → outcome ≡ Stopped → IsSome torn × (WasCut (meters_of old) (meters_of new) ⊎ Rose (meters_of old).faults (meters_of new).faults)
+    pub why : has_failed old ≡ false → outcome ≡ Stopped → IsSome torn
+        × (WasCut (meters_of old) (meters_of new) ⊎ Rose (meters_of old).faults (meters_of new).faults)
     pub whole : (outcome ≡ Stopped → ⊥) → torn ≡ None
     -- each image shows the claims, or those with the torn commit
     pub shows : g.tells → has_failed old ≡ false → (c : List ℕ) → Image (g.times (storage_of new)) c

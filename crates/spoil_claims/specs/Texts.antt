@@ -15,7 +15,7 @@ credits_text w sum = joined (codes "credits" ∷ decimal w ∷ decimal sum ∷ [
 unfoldable pub wrong_claim_text : ℕ → List ℕ
 wrong_claim_text last = joined (codes "refused" ∷ codes "claim" ∷ codes "wrong" ∷ codes "claim" ∷ decimal last ∷ [])
 
--- the texts of an answer: there is none while a scan is awaited
+-- the texts of an answer: no text while a scan is awaited
 abbrev pub said_texts : Answer → List (List ℕ)
 said_texts answers.Nothing = []
 said_texts (answers.Scanning c) = []

@@ -3,13 +3,12 @@ use Rattle.std.specs.Prelude.{◌≡◌, Bool}
 use Rattle.nv_model.specs.declared.nv.Nv.{Ghosts}
 use Rattle.nv_store.specs.RoomView.{cells_of, kept_in}
 use Rattle.nv_store.specs.declared.room.Room.{Room}
-use Rattle.row_store.specs.Commits.{RowView}
+use Rattle.row_store.specs.Commits.{RowView, rows_view}
 use Rattle.line_extensions.specs.Stops.{DeskView}
 use Rattle.row_store.specs.Seen.{seen_in}
 use Rattle.spoil_claims.specs.Claims.{Claims}
 use Rattle.spoil_claims.specs.Payload.{decoded}
-use Rattle.spoil_claims.specs.declared.desk.Desk.{Desk}
-use Rattle.spoil_claims.specs.declared.answer.Answer.{Answer}
+use Rattle.spoil_claims.specs.declared.{desk.Desk.Desk, answer.Answer.Answer}
 
 module _ {N : Type 0} {g : Ghosts N} where
   -- its storage
@@ -34,7 +33,7 @@ module _ {N : Type 0} {g : Ghosts N} where
 
   -- its cells and their storage
   abbrev pub store_of : Desk N g → RowView
-  store_of desk = record { cells = cells_of desk.room; held = kept_in desk.room; content = g.content desk.nv; times = g.times desk.nv; meters = g.meters desk.nv }
+  store_of desk = rows_view g desk.nv desk.room
 
   -- whether a commit failed, the storage, and what is kept of each cell
   abbrev pub view_of : Desk N g → DeskView N

@@ -3,9 +3,7 @@ use Rattle.std.specs.Prelude.{◌≡◌, ◌-◌, ◌≤◌, IsSome, Some}
 use Rattle.std.proofs.Props.{props}
 use Rattle.spoil_claims.specs.Claims.{Claims, kept}
 use Rattle.spoil_claims.specs.Payload.{IsFit}
-use Rattle.spoil_claims.specs.declared.claim.ClaimRow.{ClaimRow}
-use Rattle.spoil_claims.specs.declared.claim.TheConstants.{CLAIM_CELLS}
-use Rattle.spoil_claims.specs.declared.answer.Answer.{Answer}
+use Rattle.spoil_claims.specs.declared.{claim.ClaimRow.ClaimRow, claim.TheConstants.CLAIM_CELLS, answer.Answer.Answer}
 use Rattle.spoil_claims.specs.declared.answer.Answer.TheVariants as answers
 
 -- the claim is kept, in its cell
@@ -15,7 +13,7 @@ pub record IsStored (rows : Claims) (x : ClaimRow) : Type 0 where
   pub fits : IsFit (x.claim - 1) x
   pub here : kept rows x.claim ≡ Some x
 
--- a claim whose scan is awaited is kept
+-- if the scan of a claim is awaited, the claim is kept
 abbrev pub IsWaiting : Claims → Answer → Type 0
 IsWaiting rows (answers.Scanning c) = (1 ≤ c) × IsSome (kept rows c)
 IsWaiting rows _ = Unit {0}

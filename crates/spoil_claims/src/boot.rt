@@ -24,9 +24,9 @@ impl<N: Nv> Desk<N> {
     /// The desk in its storage and in memory for 1,024 cells, or why it does not start, with both. Power is not lost. Nothing is
     /// written, and no memory is taken. Blank storage has no claims.
     ///
-    /// `Damaged` comes if and only if the storage has not 159,744 bytes; where a cell has an open slot of count 0 or two open slots
-    /// of equal counts; where a payload is no claim's with the number of its cell, a customer from 1 to 64, a state and a mark; and
-    /// where a claim lies behind a blank cell.
+    /// `Damaged` is returned if and only if one of these holds. The storage has not 159,744 bytes. A cell has an open slot of
+    /// count 0 or two open slots of equal counts. A payload is not that of a claim with the number of its cell, a customer from 1
+    /// to 64, a state and a mark. A claim follows a blank cell.
     pub fn boot(nv: N, room: Room<73>) -> Result<Desk<N>, (N, Room<73>, BootFail)>
         requires powered { (N.meters nv).lost ≡ false }
         requires cells { cells_of room ≡ CLAIM_CELLS }

@@ -174,7 +174,7 @@ impl<N: Nv> Desk<N> {
         }
     }
 
-    // A claim whose number is kept.
+    // A claim with a number that is kept.
     pub(crate) fn known(&mut self, row: &ClaimRow, customer: Customer, mark: &[u8; 64]) -> Next
         requires kept { IsStored (rows_of self.old) row.now }
         ensures begins { Known row.now.claim customer mark.now row.now self.old result self.new }
@@ -190,7 +190,7 @@ impl<N: Nv> Desk<N> {
         scan_for(row)
     }
 
-    // One whose number is not.
+    // One with a number that is not kept.
     pub(crate) fn unknown(&mut self, claim: u32, customer: Customer, mark: &[u8; 64]) -> Next
         requires claim { IsClaim claim customer mark.now }
         requires new { kept (rows_of self.old) claim ≡ None }

@@ -10,8 +10,8 @@ ghost use Rattle.spoil_claims.specs.Holds.{AreBacked};
 ghost use Rattle.spoil_claims.specs.Payload.{decoded};
 ghost use Rattle.spoil_claims.specs.declared.claim.TheConstants.{CLAIM_CELLS};
 
-/// What a run with claims wants of earlier runs is so before the first one: where no claim is kept, and no piece was accepted under a number
-/// above 3,000,000,000, claims are backed (`first`); and nothing was accepted in a ledger without entries (`nothing`).
+/// The premises of a run with claims on earlier runs hold before the first run. If no claim is kept, and no piece was accepted under a number above
+/// 3,000,000,000, claims are backed (`first`). Nothing was accepted in a ledger without entries (`nothing`).
 pub fn first_claims_are_backed()
     ensures first { (rows : Claims) (L : Ledger) → ((c : ℕ) → kept rows c ≡ None)
         → EachAccepted (λ d p n. n ≤ 3000000000) L → AreBacked rows L }
@@ -25,8 +25,8 @@ pub fn one_list_is_shown()
         → a ≡ b }
 {}
 
-/// Blank storage shows the empty list. Zeros, however many, show cells of which none has a claim (`shows`); and no list of 1,024 cells that
-/// they show has one (`none`).
+/// Blank storage shows the empty list. Zeros, however many, show cells without claims (`shows`); and no list of 1,024 cells that they show has one
+/// (`none`).
 pub fn blank_shows_no_claims()
     ensures shows { (rows : Claims) (bytes : ℕ) → ((k : ℕ) → row_at rows k ≡ None)
         → ShowsRows 73 CLAIM_CELLS (ReadsAs decoded) rows (replicate bytes 0) }

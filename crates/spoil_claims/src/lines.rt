@@ -31,7 +31,7 @@ fn mark_of(bytes: &Given) -> Option<[u8; 64]>
     Some(mark)
 }
 
-// The claim of the words behind `claim`.
+// The claim of the words after `claim`.
 fn read_claim(rest: &[u8]) -> Option<ClaimLine>
     ensures found { IfSome result (λ line. (c w : ℕ) × (mark : List ℕ) × IsClaim c w mark × (line ≡ own.Claim c w mark)
         × (words_in rest.now ≡ decimal c ∷ decimal w ∷ hex_word mark ∷ [])) }
@@ -50,7 +50,7 @@ fn read_claim(rest: &[u8]) -> Option<ClaimLine>
     }
 }
 
-// The line of the words behind `credits`.
+// The line of the words after `credits`.
 fn read_credits(rest: &[u8]) -> Option<ClaimLine>
     ensures found { IfSome result (λ line. (w : ℕ) × IsCustomer w × (line ≡ own.Credits w)
         × (words_in rest.now ≡ decimal w ∷ [])) }
@@ -101,7 +101,7 @@ fn read_behind(line: &[u8], word: &[u8], rest: &[u8]) -> Option<ClaimLine>
     None
 }
 
-/// The line of the desk that the bytes are; None if and only if they are none.
+/// The line of the desk that the bytes are; None if and only if they are no such line.
 pub fn read_claim_line(line: &[u8]) -> Option<ClaimLine>
     ensures found { IfSome result (λ own. IsClaimLine own line.now) }
     ensures none { IfNone result ((own : TheLine) → IsClaimLine own line.now → ⊥) }

@@ -1,24 +1,32 @@
-//! A run over a script with claims beside the bench.
-ghost use Rattle.std.specs.Prelude.{map, string_bytes, codes};
-ghost use Rattle.bench.specs.Benches.{IsReady, bench_of};
+//! A run over a script with claims beside the bench, or from nothing over blank storages in memory.
+ghost use Rattle.std.specs.Prelude.{map, string_bytes, codes, ◌≡◌, [], IfSome, false};
+ghost use Rattle.bench.specs.Benches.{IsReady, bench_of, Stands};
 ghost use Rattle.line_extensions.specs.Desks.{world};
 ghost use Rattle.script_replay.specs.Chains.{scene_of};
 ghost use Rattle.script_replay.specs.Sides.{RanSide, EndsSide, CompletesSide};
 ghost use Rattle.script_replay.specs.Streams.{streams_of};
 ghost use Rattle.spoil_claims.specs.Ran.{DidClaims};
+ghost use Rattle.script_replay.specs.Fresh.{IsOverFresh};
+ghost use Rattle.script_replay.specs.SidesFresh.{RanSideFresh};
+ghost use Rattle.spoil_claims.specs.Fresh.{DidFreshClaims, KeepsNone};
+ghost use Rattle.spoil_claims.specs.View.{has_failed};
 
+use crate::claim::{CLAIM_BYTES, CLAIM_CELLS};
 use crate::desk::Desk;
 use bench::{Bench, HasNodes};
+use bench_base::memory::{MemSink, MemSource};
 use bench_base::stream::{Sink, Source};
 use ledger_laws::laws::histories;
-use nv_model::Nv;
+use nv_model::{MemNv, Nv};
+use nv_store::Room;
+use script_replay::fresh::{fresh_bench, fresh_store};
 use script_replay::side::run_side;
 use script_replay::status::SideStatus;
 use std::alloc::Global;
 use text_streams::BufSource;
 
-/// Does a script whose lines are events of the bench or about claims, where the words are `claims` alone. Each claim is credited by one scan of its
-/// mark, so that its piece is mail or credited, never both.
+/// Runs a script of events of the bench and of lines about claims, if the words are `claims` alone. Each claim is credited by one scan of its mark,
+/// so that its piece is mail or credited, never both.
 pub fn run_claims<S: BufSource, R: Source, K: Sink, P: Sink, N: Nv + Drop>(
     alloc: Global,
     words: &[String],
@@ -49,4 +57,77 @@ pub fn run_claims<S: BufSource, R: Source, K: Sink, P: Sink, N: Nv + Drop>(
     run_side(
         alloc, "claims", words, script, rates, report, printer, bench, desk,
     )
+}
+
+// A desk over blank storage: it keeps no claim.
+fn fresh_desk(alloc: Global) -> Option<Desk<MemNv>>
+    ensures none { IfSome result (λ desk. KeepsNone desk) }
+    ensures works { IfSome result (λ desk. has_failed desk ≡ false) }
+{
+    let nv = fresh_store(alloc, CLAIM_BYTES)?;
+    let room = Room::new(alloc, CLAIM_CELLS).ok()?;
+    match Desk::boot(nv, room) {
+        Ok(desk) => Some(desk),
+        Err(_) => None,
+    }
+}
+
+// The run over an unused bench.
+fn run_over<S: BufSource, K: Sink>(
+    alloc: Global,
+    words: &[String],
+    script: &mut S,
+    rates: &mut MemSource,
+    report: &mut K,
+    printer: &mut MemSink,
+    bench: Bench<MemNv>,
+    desk: Desk<MemNv>,
+) -> SideStatus
+    requires ready { IsReady (bench_of bench) }
+    requires tells { ⟦<MemNv as Nv>⟧.tells }
+    requires stands { Stands ⟦<Bench<MemNv> as HasNodes>⟧.nodes (bench_of bench) [] }
+    requires made { IsOverFresh (bench_of bench) }
+    requires none { KeepsNone desk }
+    requires works { has_failed desk ≡ false }
+    ensures ran { RanSideFresh ⟦<Bench<MemNv> as HasNodes>⟧.nodes ⟦<Desk<MemNv> as line_extensions::Extension>⟧
+        (λ made. IsOverFresh made) (codes "claims") result (map string_bytes words.now)
+        (λ old new. DidFreshClaims ⟦<Bench<MemNv> as HasNodes>⟧.nodes ⟦<MemNv as Nv>⟧ old new result)
+        (streams_of S.Source K.Sink ⟦<MemSource as Source>⟧ ⟦<MemSink as Sink>⟧
+        script.old report.old rates.old printer.old)
+        (streams_of S.Source K.Sink ⟦<MemSource as Source>⟧ ⟦<MemSink as Sink>⟧
+        script.new report.new rates.new printer.new) }
+{
+    let mut bench = bench;
+    let mut desk = desk;
+    run_claims(
+        alloc, words, script, rates, report, printer, &mut bench, &mut desk,
+    )
+}
+
+/// Does what `run_claims` does, on a new bench and a new desk over blank storages in memory. `None` if there is no memory for them.
+///
+/// Nothing is asked of what is there at the beginning: all that `run_claims` promises by a history holds by the empty one. The rates and the
+/// printer are those that are handed in, and the storages have room for 12,000 calls and 430,000 written bytes each.
+pub fn run_fresh_claims<S: BufSource, K: Sink>(
+    alloc: Global,
+    words: &[String],
+    script: &mut S,
+    rates: &mut MemSource,
+    report: &mut K,
+    printer: &mut MemSink,
+) -> Option<SideStatus>
+    ensures ran { IfSome result (λ outcome. RanSideFresh ⟦<Bench<MemNv> as HasNodes>⟧.nodes
+        ⟦<Desk<MemNv> as line_extensions::Extension>⟧ (λ made. IsOverFresh made) (codes "claims") outcome
+        (map string_bytes words.now)
+        (λ old new. DidFreshClaims ⟦<Bench<MemNv> as HasNodes>⟧.nodes ⟦<MemNv as Nv>⟧ old new outcome)
+        (streams_of S.Source K.Sink ⟦<MemSource as Source>⟧ ⟦<MemSink as Sink>⟧
+        script.old report.old rates.old printer.old)
+        (streams_of S.Source K.Sink ⟦<MemSource as Source>⟧ ⟦<MemSink as Sink>⟧
+        script.new report.new rates.new printer.new)) }
+{
+    let desk = fresh_desk(alloc)?;
+    match fresh_bench(alloc) {
+        Some(bench) => Some(run_over(alloc, words, script, rates, report, printer, bench, desk)),
+        None => None,
+    }
 }

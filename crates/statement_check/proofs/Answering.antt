@@ -7,8 +7,7 @@ use Rattle.line_runs.specs.declared.status.Status.TheVariants as status
 use Rattle.statement_check.specs.Runs.{EndsWith, Recomputed, IsAnswered}
 use Rattle.statement_check.specs.Turns.{IsJudged}
 use Rattle.statement_check.specs.Verdicts.{HasVerdict, status_for, report_for}
-use Rattle.statement_check.specs.declared.verdict.Verdict.{Verdict}
-use Rattle.statement_check.specs.declared.verdict.Verdict.TheVariants.{Good}
+use Rattle.statement_check.specs.declared.{verdict.Verdict.Verdict, verdict.Verdict.TheVariants.Good}
 use Rattle.statement_check.proofs.Statements.{is_statement, is_good}
 use Rattle.statement_check.proofs.Verdicts.{one_verdict, taken_has}
 

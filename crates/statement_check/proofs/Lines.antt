@@ -11,10 +11,7 @@ use Rattle.script_words.proofs.Splits.{ArePrinted, AreSolid-printed, Printed, jo
 use Rattle.script_words.proofs.Numbers.{own, Printed-decimal}
 use Rattle.statement_check.proofs.Numbers.{short_digits}
 use Rattle.statement_check.specs.Lines.{IsMills, IsCauseInRange, IsInRange, cause_words, line_words, line_text, IsLineOf}
-use Rattle.statement_check.specs.declared.line.Cause.{Cause}
-use Rattle.statement_check.specs.declared.line.Cause.TheVariants.{Deposit, Reset, Refund, Withdraw}
-use Rattle.statement_check.specs.declared.line.StatementLine.{StatementLine}
-use Rattle.statement_check.specs.declared.line.StatementLine.TheVariants.{Opening, Moved, Closing}
+use Rattle.statement_check.specs.declared.{line.Cause.Cause, line.Cause.TheVariants.Deposit, line.Cause.TheVariants.Reset, line.Cause.TheVariants.Refund, line.Cause.TheVariants.Withdraw, line.StatementLine.StatementLine, line.StatementLine.TheVariants.Opening, line.StatementLine.TheVariants.Moved, line.StatementLine.TheVariants.Closing}
 
 -- ---- a line has its words
 
@@ -89,7 +86,7 @@ two_words (Closing b) word is = cc
 pub none_alone : (bytes : List ℕ) → words_in bytes ≡ bytes ∷ [] → (line : StatementLine) → IsLineOf line bytes → ⊥
 none_alone bytes alone line is = two_words line bytes (sym (words_again line is.ranges) ∙ ap words_in (sym is.text) ∙ alone)
 
--- ---- a line is told by its bytes
+-- ---- the bytes of a line decide the line
 
 abbrev value_in : List ℕ → ℕ
 value_in w = read_on 0 w
@@ -100,7 +97,7 @@ device_in w = read_on 0 (drop 1 w)
 abbrev cause_in : ℕ → ℕ → ℕ → Cause
 cause_in c d n = if c == 115 then Reset d n else (if c == 102 then Refund d n else Withdraw d n)
 
--- what the words of a line say; the third letter of the first word tells which line it is
+-- what the words of a line say; the third letter of the first word shows which line it is
 abbrev line_in : List (List ℕ) → StatementLine
 line_in ws =
     if get_or (get_or ws 0 []) 2 0 == 97 then Opening (value_in (get_or ws 1 [])) (value_in (get_or ws 3 []))

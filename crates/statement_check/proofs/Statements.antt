@@ -7,16 +7,12 @@ use Rattle.statement_check.specs.Lines.{IsMills, IsInRange, line_text}
 use Rattle.statement_check.specs.Places.{IsRight, AreRight, place_after}
 use Rattle.statement_check.specs.Statements.{Follow, IsStatement}
 use Rattle.statement_check.specs.Verdicts.{HasVerdict}
-use Rattle.statement_check.specs.declared.line.Movement.{Movement}
-use Rattle.statement_check.specs.declared.line.StatementLine.{StatementLine}
-use Rattle.statement_check.specs.declared.line.StatementLine.TheVariants.{Opening, Moved, Closing}
-use Rattle.statement_check.specs.declared.place.Place.TheVariants.{First, Behind, Closed}
-use Rattle.statement_check.specs.declared.verdict.Verdict.TheVariants.{Good}
+use Rattle.statement_check.specs.declared.{line.Movement.Movement, line.StatementLine.StatementLine, line.StatementLine.TheVariants.Opening, line.StatementLine.TheVariants.Moved, line.StatementLine.TheVariants.Closing, place.Place.TheVariants.First, place.Place.TheVariants.Behind, place.Place.TheVariants.Closed, verdict.Verdict.TheVariants.Good}
 
 pos_same : (a b : ℕ) → pos a ≡ pos b → a ≡ b
 pos_same a b is = cc
 
--- what right lines behind this balance are, of which the last is the closing line
+-- what right lines after this balance are, if the last is the closing line
 record ClosesFrom (before closing : ℕ) (lines : List StatementLine) : Type 0 where
   movements : List Movement
   texts : map line_text lines ≡ map (λ m. line_text (Moved m)) movements ++ line_text (Closing closing) ∷ []
@@ -25,7 +21,7 @@ record ClosesFrom (before closing : ℕ) (lines : List StatementLine) : Type 0 w
   last : IsMills closing
   follow : Follow before movements closing
 
--- nothing is right behind the closing line
+-- nothing is right after the closing line
 no_more : (b : ℕ) (lines : List StatementLine) → AreRight (Closed b) lines → lines ≡ []
 no_more b [] each = refl
 no_more b (Opening c x ∷ lines) each = let told = each.0.told in cc
@@ -86,7 +82,7 @@ pub is_statement : (closing : ℕ) (bytes : List ℕ) → HasVerdict (Good closi
 is_statement closing bytes v =
     statement_of closing bytes v.right (v.are ∙ ap (λ (r : List (List ℕ)). map line_text v.right ++ r) v.decides.2) v.each v.decides.0 v.decides.1
 
--- the lines behind an opening of this balance
+-- the lines after an opening of this balance
 record LinesFrom (before closing : ℕ) (movements : List Movement) : Type 0 where
   lines : List StatementLine
   texts : map line_text lines ≡ map (λ m. line_text (Moved m)) movements ++ line_text (Closing closing) ∷ []

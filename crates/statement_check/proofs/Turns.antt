@@ -7,10 +7,7 @@ use Rattle.statement_check.specs.Lines.{line_text}
 use Rattle.statement_check.specs.Places.{IsRight, AreRight, place_behind, place_after}
 use Rattle.statement_check.specs.Runs.{script_of, TakesLast, TakesUnended}
 use Rattle.statement_check.specs.Turns.{Progress, GoesOn, EndsSo, TakesPart, IsJudged, IsUnread}
-use Rattle.statement_check.specs.declared.line.StatementLine.{StatementLine}
-use Rattle.statement_check.specs.declared.place.Place.{Place}
-use Rattle.statement_check.specs.declared.place.Place.TheVariants.{First}
-use Rattle.statement_check.specs.declared.verdict.Verdict.{Verdict}
+use Rattle.statement_check.specs.declared.{line.StatementLine.StatementLine, place.Place.Place, place.Place.TheVariants.First, verdict.Verdict.Verdict}
 
 -- ---- one line more at the end
 

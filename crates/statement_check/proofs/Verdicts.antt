@@ -1,4 +1,4 @@
--- The bytes of a statement have one verdict, and it is the one of which they were taken.
+-- The bytes of a statement have one verdict: the verdict that they were taken for.
 use Rattle.std.proofs.Common.{◌≡◌, ◌≢◌, ℕ, ℤ, pos, ◌+◌, ◌<◌, ◌≤◌, List, [], ◌∷◌, ◌++◌, length, map, Some, None, false, refl, sym, ap, subst, ◌∙◌, arith, append_assoc, append-nil, inl, inr, length-append}
 use Rattle.std.proofs.lemmas.Bool.Decides.{eqb_tells}
 use Rattle.line_runs.specs.Ends.{lines_of}
@@ -8,11 +8,7 @@ use Rattle.statement_check.specs.Lines.{IsInRange, line_text}
 use Rattle.statement_check.specs.Places.{balance, due, IsRight, AreRight, place_behind, place_after}
 use Rattle.statement_check.specs.Runs.{script_of, TakesLast, TakesUnended, Takes}
 use Rattle.statement_check.specs.Verdicts.{IsOpen, HasNoPlace, IsWrong, Decides, HasVerdict}
-use Rattle.statement_check.specs.declared.line.StatementLine.{StatementLine}
-use Rattle.statement_check.specs.declared.place.Place.{Place}
-use Rattle.statement_check.specs.declared.place.Place.TheVariants.{First, Closed}
-use Rattle.statement_check.specs.declared.verdict.Verdict.{Verdict}
-use Rattle.statement_check.specs.declared.verdict.Verdict.TheVariants.{Good, Wrong, Bad, TooLong}
+use Rattle.statement_check.specs.declared.{line.StatementLine.StatementLine, place.Place.Place, place.Place.TheVariants.First, place.Place.TheVariants.Closed, verdict.Verdict.Verdict, verdict.Verdict.TheVariants.Good, verdict.Verdict.TheVariants.Wrong, verdict.Verdict.TheVariants.Bad, verdict.Verdict.TheVariants.TooLong}
 use Rattle.statement_check.proofs.Lines.{one_line, line_one, line_short, line_long}
 use Rattle.statement_check.proofs.Turns.{right_push, after_push}
 
@@ -151,7 +147,7 @@ cut_first part left one some = at (first_end left)
 
 -- ---- what was taken has the verdict
 
--- the bytes behind the right lines decide
+-- the bytes after the right lines decide
 decided : (v : Verdict) (right : List StatementLine) (bytes : List ℕ) (rest : List (List ℕ)) → AreRight First right → lines_of bytes ≡ rest
     → Decides v (length right) (place_after First right) rest → HasVerdict v (script_of right ++ bytes)
 decided v right bytes rest each are d = record {

@@ -2,10 +2,7 @@
 use Rattle.std.specs.Prelude.{◌≡◌, ℕ, ◌<◌, ◌^◌, List, [], ◌∷◌, codes, decimal}
 use Rattle.bench_base.specs.Ranges.{IsDevice, IsCustomer, IsWord}
 use Rattle.script_words.specs.Words.{joined, device_word}
-use Rattle.statement_check.specs.declared.line.Cause.{Cause}
-use Rattle.statement_check.specs.declared.line.Cause.TheVariants.{Deposit, Reset, Refund, Withdraw}
-use Rattle.statement_check.specs.declared.line.StatementLine.{StatementLine}
-use Rattle.statement_check.specs.declared.line.StatementLine.TheVariants.{Opening, Moved, Closing}
+use Rattle.statement_check.specs.declared.{line.Cause.Cause, line.Cause.TheVariants.Deposit, line.Cause.TheVariants.Reset, line.Cause.TheVariants.Refund, line.Cause.TheVariants.Withdraw, line.StatementLine.StatementLine, line.StatementLine.TheVariants.Opening, line.StatementLine.TheVariants.Moved, line.StatementLine.TheVariants.Closing}
 
 -- money in mills, a number of 64 bits
 abbrev pub IsMills : ℕ → Type 0

@@ -1,14 +1,9 @@
--- Where a line stands in a statement, and the balance that is due in it.
+-- The place of a line in a statement, and the balance that is due in it.
 use Rattle.std.specs.Prelude.{◌≡◌, ℕ, ℤ, pos, ◌+ℤ◌, ◌-ℤ◌, List, [], ◌∷◌, Option, Some, None}
 use Rattle.statement_check.specs.Lines.{IsInRange}
-use Rattle.statement_check.specs.declared.line.Cause.{Cause}
-use Rattle.statement_check.specs.declared.line.Cause.TheVariants.{Deposit, Reset, Refund, Withdraw}
-use Rattle.statement_check.specs.declared.line.StatementLine.{StatementLine}
-use Rattle.statement_check.specs.declared.line.StatementLine.TheVariants.{Opening, Moved, Closing}
-use Rattle.statement_check.specs.declared.place.Place.{Place}
-use Rattle.statement_check.specs.declared.place.Place.TheVariants.{First, Behind, Closed}
+use Rattle.statement_check.specs.declared.{line.Cause.Cause, line.Cause.TheVariants.Deposit, line.Cause.TheVariants.Reset, line.Cause.TheVariants.Refund, line.Cause.TheVariants.Withdraw, line.StatementLine.StatementLine, line.StatementLine.TheVariants.Opening, line.StatementLine.TheVariants.Moved, line.StatementLine.TheVariants.Closing, place.Place.Place, place.Place.TheVariants.First, place.Place.TheVariants.Behind, place.Place.TheVariants.Closed}
 
--- the balance that a line tells
+-- the balance in a line
 abbrev pub balance : StatementLine → ℕ
 balance (Opening c b) = b
 balance (Moved m) = m.balance
@@ -21,7 +16,7 @@ moved before (Reset d n) amount = pos before -ℤ pos amount
 moved before (Refund d n) amount = pos before +ℤ pos amount
 moved before (Withdraw d n) amount = pos before +ℤ pos amount
 
--- the balance that is due in a line at its place; there is none where it is out of place
+-- the balance that is due in a line at its place; None if the line is out of place
 abbrev pub due : Place → StatementLine → Option ℤ
 due First (Opening c b) = Some (pos b)
 due First (Moved m) = None
@@ -33,23 +28,23 @@ due (Closed before) (Opening c b) = None
 due (Closed before) (Moved m) = None
 due (Closed before) (Closing b) = None
 
--- the place behind a line
+-- the place after a line
 abbrev pub place_behind : StatementLine → Place
 place_behind (Opening c b) = Behind b
 place_behind (Moved m) = Behind m.balance
 place_behind (Closing b) = Closed b
 
--- the line is in its place, and tells the balance that is due
+-- the line is in its place, and has the balance that is due
 pub record IsRight (place : Place) (line : StatementLine) : Type 0 where
   pub ranges : IsInRange line
   pub told : due place line ≡ Some (pos (balance line))
 
--- so is each of these lines, one behind the other
+-- each of these lines is right, one after the other
 abbrev pub AreRight : Place → List StatementLine → Type 0
 AreRight place [] = Unit {0}
 AreRight place (line ∷ lines) = IsRight place line × AreRight (place_behind line) lines
 
--- the place behind these lines
+-- the place after these lines
 abbrev pub place_after : Place → List StatementLine → Place
 place_after place [] = place
 place_after place (line ∷ lines) = place_after (place_behind line) lines

@@ -9,11 +9,7 @@ use Rattle.statement_check.specs.Lines.{line_text}
 use Rattle.statement_check.specs.Places.{IsRight, AreRight, place_behind, place_after}
 use Rattle.statement_check.specs.Statements.{IsStatement}
 use Rattle.statement_check.specs.Verdicts.{IsOpen, HasNoPlace, IsWrong, Decides, HasVerdict, status_for, report_for}
-use Rattle.statement_check.specs.declared.line.StatementLine.{StatementLine}
-use Rattle.statement_check.specs.declared.place.Place.{Place}
-use Rattle.statement_check.specs.declared.place.Place.TheVariants.{First, Closed}
-use Rattle.statement_check.specs.declared.verdict.Verdict.{Verdict}
-use Rattle.statement_check.specs.declared.verdict.Verdict.TheVariants.{Good, Wrong, Bad, TooLong}
+use Rattle.statement_check.specs.declared.{line.StatementLine.StatementLine, place.Place.Place, place.Place.TheVariants.First, place.Place.TheVariants.Closed, verdict.Verdict.Verdict, verdict.Verdict.TheVariants.Good, verdict.Verdict.TheVariants.Wrong, verdict.Verdict.TheVariants.Bad, verdict.Verdict.TheVariants.TooLong}
 
 -- the lines, each with its line end
 abbrev pub script_of : List StatementLine → List ℕ
@@ -23,7 +19,7 @@ script_of lines = flat_map (λ line. ended (line_text line)) lines
 abbrev pub IsCutLine : List ℕ → Type 0
 IsCutLine bytes = IsOneLine bytes × (length bytes ≡ 601)
 
--- What was taken behind so many right lines, each with its end, up to the verdict; end says that the script has ended behind it.
+-- What was taken after so many right lines, each with its end, up to the verdict; end says that the script has ended after it.
 abbrev pub TakesLast : Verdict → ℕ → Place → List ℕ → Type 0 → Type 0
 TakesLast (Good b) count place rest end = (count ≤ 10002) × (place ≡ Closed b) × (rest ≡ []) × end
 TakesLast (Wrong n x) count place rest end = (count < 10002) × (n ≡ count + 1) × IsLineThat (IsWrong place x) rest end
@@ -40,7 +36,8 @@ pub record TakesUnended (verdict : Verdict) (count : ℕ) (place : Place) (rest 
   pub last : Decides verdict (count + 1) (place_behind line) []
   pub at_end : end
 
--- These bytes were taken of the script for this verdict: the lines before the one that decides are right, each with its end, and rest was taken behind them.
+-- These bytes were taken of the script for this verdict: the lines before the one that decides are right, each with its end, and rest was taken
+-- after them.
 pub record Takes (verdict : Verdict) (bytes : List ℕ) (end : Type 0) : Type 0 where
   pub right : List StatementLine
   pub each : AreRight First right

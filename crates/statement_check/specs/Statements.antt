@@ -4,8 +4,7 @@ use Rattle.std.specs.List.{AllByRecursion}
 use Rattle.line_runs.specs.Ends.{lines_of}
 use Rattle.statement_check.specs.Lines.{IsInRange, line_text}
 use Rattle.statement_check.specs.Places.{moved}
-use Rattle.statement_check.specs.declared.line.Movement.{Movement}
-use Rattle.statement_check.specs.declared.line.StatementLine.TheVariants.{Opening, Moved, Closing}
+use Rattle.statement_check.specs.declared.{line.Movement.Movement, line.StatementLine.TheVariants.Opening, line.StatementLine.TheVariants.Moved, line.StatementLine.TheVariants.Closing}
 
 -- each movement leads from the balance before it to its own, and the last to the closing balance
 abbrev pub Follow : ℕ → List Movement → ℕ → Type 0

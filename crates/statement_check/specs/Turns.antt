@@ -5,12 +5,7 @@ use Rattle.line_runs.specs.Lines.{IsOneLine, ended}
 use Rattle.statement_check.specs.Lines.{line_text}
 use Rattle.statement_check.specs.Places.{IsRight, AreRight, place_behind, place_after}
 use Rattle.statement_check.specs.Runs.{script_of, TakesLast, TakesUnended, Takes, TakesSome}
-use Rattle.statement_check.specs.declared.line.StatementLine.{StatementLine}
-use Rattle.statement_check.specs.declared.place.Place.{Place}
-use Rattle.statement_check.specs.declared.place.Place.TheVariants.{First}
-use Rattle.statement_check.specs.declared.verdict.Verdict.{Verdict}
-use Rattle.statement_check.specs.declared.judge.Turn.{Turn}
-use Rattle.statement_check.specs.declared.judge.Turn.TheVariants.{Goes, Ends}
+use Rattle.statement_check.specs.declared.{line.StatementLine.StatementLine, place.Place.Place, place.Place.TheVariants.First, verdict.Verdict.Verdict, judge.Turn.Turn, judge.Turn.TheVariants.Goes, judge.Turn.TheVariants.Ends}
 
 -- the bytes are a right line at this place, and the next is this one
 pub record IsChecked (place next : Place) (bytes : List ℕ) : Type 0 where
@@ -34,7 +29,7 @@ pub record GoesOn (place next : Place) (left0 left1 : Option (List ℕ)) : Type 
   pub behind : next ≡ place_behind line
   pub consumed : Consumes left0 left1 (ended (line_text line))
 
--- the verdict came of what stands behind so many lines
+-- what follows so many lines has decided the verdict
 pub record EndsSo (verdict : Verdict) (count : ℕ) (place : Place) (left0 left1 : Option (List ℕ)) : Type 0 where
   pub bytes : List ℕ
   pub consumed : Consumes left0 left1 bytes

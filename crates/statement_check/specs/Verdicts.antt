@@ -8,11 +8,7 @@ use Rattle.line_runs.specs.declared.status.Status.{Status}
 use Rattle.line_runs.specs.declared.status.Status.TheVariants as status
 use Rattle.statement_check.specs.Lines.{IsLineOf, line_text}
 use Rattle.statement_check.specs.Places.{balance, due, AreRight, place_after}
-use Rattle.statement_check.specs.declared.line.StatementLine.{StatementLine}
-use Rattle.statement_check.specs.declared.place.Place.{Place}
-use Rattle.statement_check.specs.declared.place.Place.TheVariants.{First, Behind, Closed}
-use Rattle.statement_check.specs.declared.verdict.Verdict.{Verdict}
-use Rattle.statement_check.specs.declared.verdict.Verdict.TheVariants.{Good, Wrong, Bad, TooLong}
+use Rattle.statement_check.specs.declared.{line.StatementLine.StatementLine, place.Place.Place, place.Place.TheVariants.First, place.Place.TheVariants.Behind, place.Place.TheVariants.Closed, verdict.Verdict.Verdict, verdict.Verdict.TheVariants.Good, verdict.Verdict.TheVariants.Wrong, verdict.Verdict.TheVariants.Bad, verdict.Verdict.TheVariants.TooLong}
 
 -- the statement was not closed yet
 abbrev pub IsOpen : Place → Type 0
@@ -24,7 +20,7 @@ IsOpen (Closed b) = ⊥
 abbrev pub HasNoPlace : Place → List ℕ → Type 0
 HasNoPlace place bytes = (line : StatementLine) → IsLineOf line bytes → due place line ≡ None
 
--- the bytes are a line in its place that does not tell the balance x, which is due
+-- the bytes are a line in its place that does not have the balance x, which is due
 pub record IsWrong (place : Place) (x : ℤ) (bytes : List ℕ) : Type 0 where
   pub line : StatementLine
   pub is : IsLineOf line bytes
@@ -38,7 +34,7 @@ Fails (Wrong n x) number place bytes = (n ≡ number) × IsWrong place x bytes
 Fails (Bad n) number place bytes = (n ≡ number) × HasNoPlace place bytes
 Fails TooLong number place bytes = ⊥
 
--- Behind so many right lines, at the place behind them, the rest of the lines decides: the closing line was the last; or the next line is wrong; or it
+-- After so many right lines, at the place after them, the rest of the lines decides. The closing line was the last; or the next line is wrong; or it
 -- is not in form, out of place or missing; or it is one too many.
 abbrev pub Decides : Verdict → ℕ → Place → List (List ℕ) → Type 0
 Decides (Good b) count place rest = (count ≤ 10002) × (place ≡ Closed b) × (rest ≡ [])

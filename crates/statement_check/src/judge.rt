@@ -17,12 +17,12 @@ const LINES: u32 = 10_002;
 /// What came of a line.
 #[derive(Clone, Copy)]
 enum Turn {
-    /// The line was right; this is the place behind it.
+    /// The line was right; this is the place after it.
     Goes(Place),
     Ends(Verdict),
 }
 
-// The place behind a line of this number that stands in this place; where the line isn't right, the verdict.
+// The place after a line of this number in this place; if the line isn't right, the verdict.
 fn check_line(number: u32, place: &Place, bytes: &[u8]) -> Result<Place, Verdict>
     ensures { MatchResult result (λ next. IsChecked place.now next bytes.now)
         (λ verdict. Fails verdict number place.now bytes.now) }
@@ -39,7 +39,7 @@ fn check_line(number: u32, place: &Place, bytes: &[u8]) -> Result<Place, Verdict
     Ok(Place::behind(&line))
 }
 
-// The verdict where the script has ended behind so many lines, in this place.
+// The verdict if the script has ended after so many lines, in this place.
 fn ended_behind(count: u32, place: &Place) -> Verdict
     requires { count ≤ 10002 }
     ensures { Decides result count place.now [] }
@@ -50,7 +50,7 @@ fn ended_behind(count: u32, place: &Place) -> Verdict
     }
 }
 
-// Reads the line behind so many lines, which stands in this place.
+// Reads the line after so many lines, in this place.
 fn take_line<S: BufSource>(
     count: u32,
     place: &Place,
@@ -78,7 +78,7 @@ fn take_line<S: BufSource>(
     }
 }
 
-// Looks whether a line stands behind the last that a statement may have.
+// Checks whether a line follows the last that a statement may have.
 fn take_last<S: BufSource>(
     place: &Place,
     buf: &mut [u8; 600],

@@ -32,7 +32,7 @@ impl StatementLine {
     ghost use Rattle.std.specs.Prelude.{◌≡◌};
     ghost use Rattle.statement_check.specs.Places.{balance};
 
-    /// The balance that the line tells.
+    /// The balance in the line.
     pub fn balance(&self) -> u64
         ensures { result ≡ balance self.now }
     {

@@ -1,13 +1,13 @@
-//! Where a line stands in a statement.
+//! The place of a line in a statement.
 use crate::line::{Cause, Movement, StatementLine};
 
-/// Where the next line of a statement stands.
+/// The place of the next line of a statement.
 #[derive(Clone, Copy, Debug, PartialEq, Eq)]
 pub enum Place {
     First,
-    /// Behind the opening line or a movement, which tells this balance.
+    /// After the opening line or a movement, with this balance.
     Behind(u64),
-    /// Behind the closing line, which tells this balance.
+    /// After the closing line, with this balance.
     Closed(u64),
 }
 
@@ -50,7 +50,7 @@ impl Place {
         }
     }
 
-    /// The place behind a line.
+    /// The place after a line.
     pub fn behind(line: &StatementLine) -> Place
         ensures { result ≡ place_behind line.now }
     {

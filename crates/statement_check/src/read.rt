@@ -36,7 +36,7 @@ impl Ruling {
     }
 }
 
-// The opening line, by the words behind its first.
+// The opening line, by the words after its first.
 fn read_opening(rest: &[u8]) -> Option<StatementLine>
     ensures found { IfSome result (λ line. (c b : ℕ) × IsCustomer c × IsMills b × (line ≡ lines.Opening c b)
         × (words_in rest.now ≡ decimal c ∷ codes "opening" ∷ decimal b ∷ [])) }
@@ -49,7 +49,7 @@ fn read_opening(rest: &[u8]) -> Option<StatementLine>
     }
 }
 
-// A deposit, by the words behind its first.
+// A deposit, by the words after its first.
 fn read_deposit(rest: &[u8]) -> Option<StatementLine>
     ensures found { IfSome result (λ line. (r a b : ℕ) × IsWord r × IsMills a × IsMills b
         × (line ≡ lines.Moved (record { cause = causes.Deposit r; amount = a; balance = b }))
@@ -67,7 +67,7 @@ fn read_deposit(rest: &[u8]) -> Option<StatementLine>
     }
 }
 
-// A movement by a ruling, by the words behind its first.
+// A movement by a ruling, by the words after its first.
 fn read_ruled(ruling: Ruling, rest: &[u8]) -> Option<StatementLine>
     ensures found { IfSome result (λ line. (d n a b : ℕ) × IsDevice d × IsWord n × IsMills a × IsMills b
         × (line ≡ lines.Moved (record { cause = ruled ruling d n; amount = a; balance = b }))
@@ -85,7 +85,7 @@ fn read_ruled(ruling: Ruling, rest: &[u8]) -> Option<StatementLine>
     }
 }
 
-// The closing line, by the words behind its first.
+// The closing line, by the words after its first.
 fn read_closing(rest: &[u8]) -> Option<StatementLine>
     ensures found { IfSome result (λ line. (b : ℕ) × IsMills b × (line ≡ lines.Closing b)
         × (words_in rest.now ≡ decimal b ∷ [])) }
@@ -123,7 +123,7 @@ fn read_behind(word: &[u8], rest: &[u8]) -> Option<StatementLine>
     None
 }
 
-/// The line of a statement that the bytes are; None if and only if they are none.
+/// The line of a statement that the bytes are; None if and only if they are no such line.
 pub fn read_statement_line(bytes: &[u8]) -> Option<StatementLine>
     ensures found { IfSome result (λ line. IsLineOf line bytes.now) }
     ensures none { IfNone result ((line : TheLine) → IsLineOf line bytes.now → ⊥) }

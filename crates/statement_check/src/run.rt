@@ -1,4 +1,4 @@
-//! A statement is reckoned again.
+//! A statement is recomputed.
 ghost use Rattle.std.specs.Prelude.{◌≡◌, ◌≢◌, ◌↔◌, ◌≤◌, [], ◌∷◌, map, string_bytes, codes, true, false, IfSome, IsTrue};
 ghost use Rattle.bench_base.specs.Causes.{Rose};
 ghost use Rattle.line_runs.specs.declared.status.Status.{Status};
@@ -32,14 +32,14 @@ fn is_called(words: &[String]) -> bool
     }
 }
 
-/// Reads one statement, where the words are `recompute` alone, and writes whether each balance in it follows from the lines before it: `statement good B`,
-/// or `statement wrong LINE X` for the first line whose balance isn't X. It takes no memory.
+/// Reads one statement, if the words are `recompute` alone, and writes whether each balance in it follows from the lines before it:
+/// `statement good B`, or `statement wrong LINE X` for the first line with a balance other than X. It takes no memory.
 ///
-/// - `Words`: the words are others; nothing is read or written.
-/// - `Script`: the line of this number, before any wrong one, is not in form, stands behind the closing line, or is missing.
-/// - `TooLong`: there is a line 10,003, and each before it is right.
-/// - `ReadFault`: the script failed; nothing is written.
-/// - `WriteFault`: the report failed; it has a part of the verdict's line.
+/// - `Words`: The words are others. Nothing is read or written.
+/// - `Script`: The line of this number is not in form, follows the closing line, or is missing. No line before it is wrong.
+/// - `TooLong`: There is a line 10,003. Each line before it is right.
+/// - `ReadFault`: The script failed. Nothing is written.
+/// - `WriteFault`: The report failed. It has a part of the verdict's line.
 pub fn run_recompute<S: BufSource, K: Sink>(
     words: &[String],
     script: &mut S,

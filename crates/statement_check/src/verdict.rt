@@ -14,7 +14,7 @@ pub enum Verdict {
     Wrong(u32, i128),
     /// The line of this number is not in form, out of place or missing.
     Bad(u32),
-    /// There is a line behind the last that a statement may have.
+    /// There is a line after the last that a statement may have.
     TooLong,
 }
 

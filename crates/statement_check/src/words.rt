@@ -1,4 +1,4 @@
-//! Words that stand in a statement's lines.
+//! Words in the lines of a statement.
 ghost use Rattle.std.specs.Prelude.{codes};
 
 use script_words::Word;

@@ -1,7 +1,6 @@
 -- Replies that are lost, a refund that is cut, a withdrawal and resets that are not granted, computed.
 use Rattle.std.specs.Prelude.{drop, pos, true, ◌∷◌}
-use Rattle.bench_base.specs.declared.words.Node.TheVariants.{Centre}
-use Rattle.bench_base.specs.declared.words.Verdict.TheVariants.{Granted, NoFunds}
+use Rattle.bench_base.specs.declared.{words.Node.TheVariants.Centre, words.Verdict.TheVariants.Granted, words.Verdict.TheVariants.NoFunds}
 use Rattle.bench_base.specs.declared.ledger.Commit.TheVariants as c
 use Rattle.bench_base.specs.declared.ledger.Entry.TheVariants as e
 use Rattle.bench_base.specs.Rules.{first_rules}

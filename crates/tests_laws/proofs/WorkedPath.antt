@@ -1,7 +1,6 @@
 -- The ordinary path, computed: each step is the answer and the entries of the definitions, hashes included.
 use Rattle.std.specs.Prelude.{drop, pos, [], ◌∷◌}
-use Rattle.bench_base.specs.declared.words.Node.TheVariants.{Device, Centre, Host, Verifier}
-use Rattle.bench_base.specs.declared.words.Verdict.TheVariants.{Granted}
+use Rattle.bench_base.specs.declared.{words.Node.TheVariants.Device, words.Node.TheVariants.Centre, words.Node.TheVariants.Host, words.Node.TheVariants.Verifier, words.Verdict.TheVariants.Granted}
 use Rattle.bench_base.specs.declared.ledger.Commit.TheVariants as c
 use Rattle.bench_base.specs.declared.ledger.Entry.TheVariants as e
 use Rattle.bench_base.specs.Rules.{first_rules}

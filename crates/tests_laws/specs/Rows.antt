@@ -1,9 +1,6 @@
 -- Worked rows: scripts, what they are answered, and the ledgers that they make, to the byte. The bytes were made by another program.
 use Rattle.std.specs.Prelude.{ℕ, pos, true, false, List, [], ◌∷◌, Some, None}
-use Rattle.bench_base.specs.declared.words.Node.TheVariants.{Device, Centre, Host, Verifier}
-use Rattle.bench_base.specs.declared.words.Kind.TheVariants.{Enrol, Reset, Audit, Refund, Withdraw}
-use Rattle.bench_base.specs.declared.words.Verdict.TheVariants.{Granted, NoFunds, Suspended}
-use Rattle.bench_base.specs.declared.words.Phase.TheVariants.{InService, Withdrawn}
+use Rattle.bench_base.specs.declared.{words.Node.TheVariants.Device, words.Node.TheVariants.Centre, words.Node.TheVariants.Host, words.Node.TheVariants.Verifier, words.Kind.TheVariants.Enrol, words.Kind.TheVariants.Reset, words.Kind.TheVariants.Audit, words.Kind.TheVariants.Refund, words.Kind.TheVariants.Withdraw, words.Verdict.TheVariants.Granted, words.Verdict.TheVariants.NoFunds, words.Verdict.TheVariants.Suspended, words.Phase.TheVariants.InService, words.Phase.TheVariants.Withdrawn, refusals.RateRefusal.TheVariants.NoClass}
 use Rattle.bench_base.specs.declared.words.JobState.TheVariants as js
 use Rattle.bench_base.specs.declared.refusals.Unread.TheVariants as unread
 use Rattle.bench_base.specs.declared.refusals.MarkFault.TheVariants as mark_fault
@@ -11,7 +8,6 @@ use Rattle.bench_base.specs.declared.refusals.DevRefusal.TheVariants as no
 use Rattle.bench_base.specs.declared.refusals.CentreRefusal.TheVariants as not_c
 use Rattle.bench_base.specs.declared.refusals.HostRefusal.TheVariants as not_h
 use Rattle.bench_base.specs.declared.refusals.ScanRefusal.TheVariants as not_v
-use Rattle.bench_base.specs.declared.refusals.RateRefusal.TheVariants.{NoClass}
 use Rattle.bench_base.specs.declared.ledger.Commit.TheVariants as c
 use Rattle.bench_base.specs.declared.ledger.Entry.TheVariants as e
 use Rattle.bench_base.specs.declared.events.Event.TheVariants as ev
@@ -262,7 +258,20 @@ ordinary_steps =
     ∷ record { event = ev.Print 1; text = []; reply = r.Printed 1 }
     ∷ record { event = ev.Close 1; text = []; reply = r.Closed 1 }
     ∷ record { event = ev.ScanMsg 1 8; text = []; reply = r.Accepted 1 1 1 false }
-    ∷ record { event = ev.Status 1; text = []; reply = r.Status 1 (record { phase = InService; ascending = 550; descending = 49450; refunded = 0; pieces = 1; number = 3; deadline = pos 20605; pending = None }) }
+    ∷ record {
+      event = ev.Status 1;
+      text = [];
+      reply = r.Status 1 (record {
+        phase = InService;
+        ascending = 550;
+        descending = 49450;
+        refunded = 0;
+        pieces = 1;
+        number = 3;
+        deadline = pos 20605;
+        pending = None;
+      });
+    }
     ∷ record { event = ev.Balance 1; text = []; reply = r.Balance 1 50000 }
     ∷ record { event = ev.Reconcile 1; text = []; reply = r.Reconciled 1 50000 50000 None }
     ∷ []
@@ -316,7 +325,20 @@ refund_steps =
     ∷ record { event = ev.Deliver 8; text = []; reply = r.Ruled 1 4 Granted true 9 }
     ∷ record { event = ev.Deliver 9; text = []; reply = r.Applied 1 4 Granted }
     ∷ record { event = ev.Balance 1; text = []; reply = r.Balance 1 99450 }
-    ∷ record { event = ev.Status 1; text = []; reply = r.Status 1 (record { phase = InService; ascending = 550; descending = 0; refunded = 49450; pieces = 1; number = 4; deadline = pos 20605; pending = None }) }
+    ∷ record {
+      event = ev.Status 1;
+      text = [];
+      reply = r.Status 1 (record {
+        phase = InService;
+        ascending = 550;
+        descending = 0;
+        refunded = 49450;
+        pieces = 1;
+        number = 4;
+        deadline = pos 20605;
+        pending = None;
+      });
+    }
     ∷ []
 
 abbrev pub refund_ledger : Ledger

@@ -1,9 +1,6 @@
 -- A row of steps: events with what they are answered, from one ledger to another.
 use Rattle.std.specs.Prelude.{◌≡◌, ℕ, ◌≤◌, Bool, true, false, ◌&&◌, List, [], ◌∷◌, Result, Ok, Err, ◌==◌, nat_le, if◌then◌else◌}
-use Rattle.bench_base.specs.declared.refusals.RateRefusal.{RateRefusal}
-use Rattle.bench_base.specs.declared.refusals.RateRefusal.TheVariants.{NoClass}
-use Rattle.bench_base.specs.declared.events.Event.{Event}
-use Rattle.bench_base.specs.declared.events.Reply.{Reply}
+use Rattle.bench_base.specs.declared.{refusals.RateRefusal.RateRefusal, refusals.RateRefusal.TheVariants.NoClass, events.Event.Event, events.Reply.Reply}
 use Rattle.bench_base.specs.Rules.{Rules}
 use Rattle.bench_base.specs.Ledger.{Ledger}
 use Rattle.ledger_moves.specs.Tariffs.{Tariff}
@@ -38,7 +35,7 @@ pub one_price_bounds : (known : Bool) (postage : ℕ) → one_price known ≡ Ok
 one_price_bounds true postage h = subst (λ n. (1 ≤ n) × (n ≤ 100000)) (ap price_in h) (lit≤ tt, lit≤ tt)
 one_price_bounds false postage h = absurd (true≢false (sym (ap is_price h)))
 
--- a tariff of two classes and two zones, of which one price is known: class 1, up to 28 grams, zone 1
+-- a tariff of two classes and two zones, with one price that is known: class 1, up to 28 grams, zone 1
 abbrev pub sample : Tariff
 sample = record {
   reading = λ text. Ok (2, 2);

@@ -1,8 +1,6 @@
--- A worked row of today's edition, to the byte. It goes on after a ledger of the first one. The bytes were made by another program.
+-- A golden test of today's version of the rules, to the byte. It goes on after a ledger of the first one. The bytes were made by another program.
 use Rattle.std.specs.Prelude.{ℕ, pos, false, List, [], ◌∷◌, None}
-use Rattle.bench_base.specs.declared.words.Kind.TheVariants.{Reset, Audit}
-use Rattle.bench_base.specs.declared.words.Verdict.TheVariants.{Granted}
-use Rattle.bench_base.specs.declared.words.Phase.TheVariants.{InService}
+use Rattle.bench_base.specs.declared.{words.Kind.TheVariants.Reset, words.Kind.TheVariants.Audit, words.Verdict.TheVariants.Granted, words.Phase.TheVariants.InService}
 use Rattle.bench_base.specs.declared.refusals.DevRefusal.TheVariants as no
 use Rattle.bench_base.specs.declared.ledger.Commit.TheVariants as c
 use Rattle.bench_base.specs.declared.ledger.Entry.TheVariants as e
@@ -58,7 +56,20 @@ today_steps =
     ∷ record { event = ev.Ask 1 Audit 0 0; text = []; reply = r.SentRequest 1 4 9 }
     ∷ record { event = ev.Deliver 9; text = []; reply = r.Ruled 1 4 Granted false 10 }
     ∷ record { event = ev.Deliver 10; text = []; reply = r.Applied 1 4 Granted }
-    ∷ record { event = ev.Status 1; text = []; reply = r.Status 1 (record { phase = InService; ascending = 1550; descending = 48450; refunded = 0; pieces = 2; number = 4; deadline = pos 20698; pending = None }) }
+    ∷ record {
+      event = ev.Status 1;
+      text = [];
+      reply = r.Status 1 (record {
+        phase = InService;
+        ascending = 1550;
+        descending = 48450;
+        refunded = 0;
+        pieces = 2;
+        number = 4;
+        deadline = pos 20698;
+        pending = None;
+      });
+    }
     ∷ []
 
 abbrev pub today_ledger : Ledger

@@ -31,7 +31,7 @@ pub record RefusalRows : Type 0 where
   pub checks : IsRow sample first_rules rows.checks_steps [] rows.checks_ledger
 
 -- the same device goes on under today's rules, with marks and messages of version 2 and in its days of grace; what comes
--- out is a history by all editions
+-- out is a history by all versions of the rules
 pub record TodaysRows : Type 0 where
   pub today : IsRow sample todays_rules today_steps rows.settled_ledger today_ledger
   pub goes_on : History sample editions today_ledger

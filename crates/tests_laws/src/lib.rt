@@ -1,4 +1,4 @@
-//! Worked rows over the definitions, to the byte. They are computed; no other crate stands on them.
+//! Golden tests of the definitions, to the byte. They are computed; no other crate rests on them.
 #![tactic(auto)]
 
 pub mod rows;

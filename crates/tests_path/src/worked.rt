@@ -19,7 +19,7 @@ use std::alloc::{AllocError, Global};
 use std::test::Fail;
 use text_streams::ReadAhead;
 
-/// A blank storage of so many bytes, of which no call fails.
+/// A blank storage of so many bytes; no call of it fails.
 fn storage(alloc: Global, bytes: u32) -> Result<MemNv, AllocError>
     ensures { IfOk result (λ nv. Works (⟦<MemNv as Nv>⟧.meters nv)) }
 {
@@ -126,7 +126,7 @@ pub struct RunEnd {
     pub prints: Vec<u8>,
 }
 
-/// Words of the program, behind its name.
+/// Words of the program, after its name.
 fn words_of(alloc: Global, given: &[&str]) -> Result<Vec<String>, AllocError> {
     let mut words = Vec::new(alloc);
     for word in given {
@@ -141,7 +141,7 @@ fn source_of(alloc: Global, text: &[u8]) -> Result<MemSource, AllocError> {
     Ok(MemSource::new(Vec::from_slice(alloc, text)?, 4096, Vec::new(alloc)))
 }
 
-/// The script, of which as many bytes are read at once as a piece has.
+/// The script; as many bytes of it are read at once as a piece has.
 fn script_of(alloc: Global, given: &Given) -> Result<ReadAhead<MemSource>, AllocError>
     requires some { 1 ≤ given.now.piece }
 {

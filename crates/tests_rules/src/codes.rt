@@ -50,7 +50,7 @@ fn vectors(rt: HostRuntime) {
     }
 }
 
-// A vector of RFC 4231 has no key of 32 bytes: this is its second, whose key is filled with zeros, which gives the same code.
+// No vector of RFC 4231 has a key of 32 bytes: this is its second, with its key filled with zeros, which gives the same MAC.
 #[test]
 fn a_ready_key(rt: HostRuntime) {
     // sample hmac_core

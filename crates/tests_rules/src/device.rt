@@ -158,10 +158,10 @@ const ALL: [u8; 64] = [
     0xca, 0xa9, 0xb2, 0xe0, 0xc8, 0x14, 0xad, 0x0e, 0x3e, 0x37, 0xda, 0xbc, 0x70, 0xf3, 0x52, 0xec,
 ];
 
-/// A name and a number, in which a device's answer is compared.
+/// A name and a number; a device's answers are compared as these.
 type Told = (&'static str, i64);
 
-/// What is asked of a device, and on which day.
+/// What is asked of a device, and the day.
 #[derive(Clone, Copy)]
 enum Call {
     /// To mark this piece with this postage.
@@ -172,11 +172,11 @@ enum Call {
     Resend,
     /// To apply that the centre granted the request of this number and kind, with this amount and deadline.
     Apply(u32, Kind, u64, i32),
-    /// To tell of the last transaction.
+    /// To report the last transaction.
     Done,
 }
 
-/// A call, and what is wanted of it.
+/// A call, and the expected answer.
 type Row = (Call, Told);
 
 /// 2026-03-01, and the deadline of the ready device.
@@ -250,7 +250,7 @@ const REQUESTS_OF_READY: &[Row] = &[
     (Call::Ask(Kind::Audit, 0, 0, 20_512), ("clock back", 20_513)),
 ];
 
-/// What else these are asked of a transaction.
+/// Transactions that the ready device is asked for.
 const TRANSACTIONS_OF_READY: &[Row] = &[
     (
         Call::Apply(3, Kind::Reset, 50_000, DEADLINE),
@@ -406,7 +406,7 @@ fn mark_in(answer: Debited) -> [u8; 64] {
 }
 
 // sample psd_state
-// What a mark tells, and the device after it.
+// What the answer of a mark shows, and the device after it.
 fn told_of_mark(answer: Debited, before: DevRec) -> (Told, DevRec) {
     match answer {
         Debited::New(after, _) => (("new", 0), after),
@@ -445,7 +445,7 @@ fn told_of_reply(device: DevRec, reply: &ReplyMsg) -> (Told, DevRec) {
     }
 }
 
-// The same of telling of the last transaction.
+// The same of the report of the last transaction.
 fn told_of_done(device: &DevRec) -> Told {
     match device.done() {
         Ok(_) => ("done", 0),
@@ -475,7 +475,7 @@ fn granted(number: u32, kind: Kind, amount: u64, deadline: i32) -> ReplyMsg {
     }
 }
 
-// What the device tells of a call, and what it is after it.
+// What the device answers to a call, and what it is after it.
 fn answer(rt: &impl Abort, device: DevRec, call: Call) -> (Told, DevRec) {
     match call {
         Call::Debit(piece, postage, on) => told_of_debit(device, piece, postage, day(rt, on)),
@@ -590,7 +590,7 @@ fn is_resent(device: &DevRec, bytes: &[u8]) -> bool {
     }
 }
 
-// Whether the device tells of its last transaction with these bytes.
+// Whether the device reports its last transaction with these bytes.
 fn is_done(device: &DevRec, bytes: &[u8; 42]) -> bool {
     match device.done() {
         Ok(note) => note == *bytes,

@@ -36,7 +36,7 @@ const HELD_CHANGES: &[(usize, u8)] = &[
     (82, 3),
 ];
 
-/// A state as a payload has it, the version of its mark, and the state that is read.
+/// A state as a byte of a payload, the version of its mark, and the state that is read.
 const STATES: &[(u8, u8, JobState)] = &[
     (1, 0, JobState::Ordered),
     (2, 1, JobState::Held),
@@ -112,7 +112,7 @@ fn payload_in(state: u8, version: u8) -> [u8; 115] {
     }
 }
 
-// The payload is read in the state that is wanted, and written as it was.
+// The payload is read in the expected state, and written as it was.
 fn reads_back(rt: &impl Abort, state: u8, version: u8, wanted: JobState) {
     let bytes = payload_in(state, version);
     let row = JobRow::read_payload(0, &bytes).expect(rt, "a row");
@@ -186,14 +186,14 @@ fn told<A: Copy>(act: HostAct<A>) -> &'static str {
     }
 }
 
-// What is told of an order without rates.
+// What an order without rates reports.
 fn ordered_without_rates(device: DevNo, rows: &JobRows, kept: &Kept) -> &'static str
     requires { IsDerived rows.now kept.now }
 {
     told(order_act(device, 1, 1, None, rows, kept))
 }
 
-// Job, piece, postage and class of an order, the job of its row, and job and postage of what is told of it.
+// Job, piece, postage and class of an order, the job of its row, and job and postage of what it reports.
 fn ordered(
     device: DevNo,
     rows: &JobRows,
@@ -240,7 +240,7 @@ fn orders_without_jobs(rt: HostRuntime) -> Result<(), AllocError> {
 }
 
 // sample host_jobs
-// What is told where a job is sent, printed and closed, and no bytes are taken.
+// What is reported if a job is sent, printed and closed, and no bytes are taken.
 fn refusals(rows: &JobRows, kept: &Kept) -> (&'static str, &'static str, &'static str, &'static str)
     requires { IsDerived rows.now kept.now }
 {

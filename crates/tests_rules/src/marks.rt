@@ -155,7 +155,7 @@ fn fault_of(bytes: &[u8]) -> Option<MarkFault> {
     }
 }
 
-// The fault of so many bytes, of which the first are those of the first mark.
+// The fault of so many bytes; the first are those of the first mark.
 fn fault_of_length(rt: &impl Abort, length: usize) -> Option<MarkFault> {
     assert!(rt; length <= 65, "a length");
     let mut long = [0; 65];

@@ -106,7 +106,7 @@ const DISTINCT_REPLY_OF_TWO: [u8; 60] = [
     0x7d, 0x06, 0xda, 0xd3, 0xc7, 0xeb, 0x57, 0x60, 0x5e, 0x18, 0x4e, 0x48,
 ];
 
-/// The messages whose bytes stand here.
+/// The messages whose bytes are here.
 #[derive(Clone, Copy)]
 enum Sample {
     /// The request in this version.

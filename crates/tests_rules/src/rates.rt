@@ -131,7 +131,7 @@ fn refuses_texts(rt: HostRuntime) {
     fails_are(&rt, rt.alloc(), NO_RATES, RatesFail::Form);
 }
 
-// A text of 65,536 bytes is read, and one byte more is too long, whatever stands in it.
+// A text of 65,536 bytes is read, and one byte more is too long, whatever it contains.
 #[test]
 fn measures_texts(rt: HostRuntime) -> Result<(), Fail> {
     let mut text = vec![in rt.alloc(); b'#'; 65_536]?;

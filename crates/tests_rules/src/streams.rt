@@ -4,7 +4,7 @@ use bench_base::stream::{ReadFail, Source};
 use std::test::Fail;
 use text_streams::ReadAhead;
 
-// A source of six bytes in pieces of four, whose third read fails, behind a buffer of five: what each read of two bytes gives.
+// What each read of two bytes gives, through a buffer of five. The source has six bytes in pieces of four, and its third read fails.
 #[test]
 fn gives_what_the_source_gives(rt: HostRuntime) -> Result<(), Fail> {
     let bytes = vec![in rt.alloc(); 1, 2, 3, 4, 5, 6]?;

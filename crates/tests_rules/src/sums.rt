@@ -1,7 +1,7 @@
 //! Registers after a load, a debit and a refund, and at their limit.
 use registers::Registers;
 
-// Whether the registers stand at these numbers.
+// Whether the registers have these numbers.
 fn stand_at(
     registers: &Registers,
     ascending: u64,

@@ -25,7 +25,7 @@ impl Kind {
     }
 }
 
-/// Where power is cut: the number of the call, and its tear.
+/// The place of a power cut: the number of the call, and its tear.
 #[derive(Clone, Copy)]
 pub struct Cut {
     pub call: u32,
@@ -40,9 +40,9 @@ pub struct Seen {
     pub power: bool,
     /// The commits that the next mount shows.
     pub commits: u64,
-    /// The first byte of the payload, 0 where there is none.
+    /// The first byte of the payload; 0 if there is no payload.
     pub first: u8,
-    /// That of the cell beside it, in a table.
+    /// The first byte of the cell beside it, in a table.
     pub others: u8,
     /// A commit to the new mount succeeds.
     pub next: bool,
@@ -95,7 +95,7 @@ fn after<T: Tried>(store: T, cell: u32, before: u8, cut: Cut) -> Option<Seen> {
     Some(look(&mut store, cell, power))
 }
 
-/// Storage of garbage behind closed gates.
+/// Storage of garbage with closed gates.
 fn garbage(alloc: Global, size: usize) -> Option<Fused<MemNv>>
     ensures { IfSome result (λ nv. (state_of nv).lost ≡ false) }
 {
@@ -111,7 +111,7 @@ fn after_ring(alloc: Global, before: u8, cut: Cut) -> Option<Seen> {
     after(mounted_ring(garbage(alloc, 144)?)?, 0, before, cut)
 }
 
-/// Of a table's second cell; the first has one commit.
+/// The same for a table's second cell; the first has one commit.
 fn after_table(alloc: Global, before: u8, cut: Cut) -> Option<Seen> {
     let mut table = mounted_table(alloc, garbage(alloc, 36)?)?;
     if !fill(&mut table, 0, 1) {

@@ -82,7 +82,7 @@ fn fused_keeps(alloc: Global) -> Result<Shown, AllocError> {
 }
 
 // sample nv_file
-/// What the file at this path keeps; one of eight bytes is made where there is none.
+/// What the file at this path keeps; a file of eight bytes is made if there is no file.
 fn file_keeps(rt: &HostRuntime, path: &str) -> Result<Shown, StartFault> {
     let mut file = FileNv::start(rt, path, 8)?;
     Ok(keeps(&mut file))
@@ -152,11 +152,11 @@ fn fails_by_its_plan_and_its_record(rt: HostRuntime) -> Result<(), Fail> {
     Ok(())
 }
 
-/// A fuse to arm, where there is one: the calls before it burns, what it keeps, and what it fills; a write and its place; whether
-/// the write and a sync behind it go well; and what is shown after a restart.
+/// A fuse to arm, if any: the calls before it burns, what it keeps, and what it fills; a write and its place; whether the write
+/// and a sync after it go well; and what is shown after a restart.
 type Burning = (Option<(u32, u32, u8)>, u32, [u8; 3], bool, bool, [u8; 8]);
 
-/// What dots in memory behind a fuse answer to a write, a sync and a restart, and what they show, row by row; and what the storage
+/// What dots in memory with a fuse answer to a write, a sync and a restart, and what they show, row by row; and what the storage
 /// shows that is taken out.
 fn burnt(
     alloc: Global,
@@ -232,7 +232,7 @@ fn size_of(rt: &HostRuntime, path: &str) -> Option<u32> {
 fn keeps_a_file(rt: HostRuntime) -> Result<(), Fail> {
     let path = "keeps_a_file.nv";
     let part = "keeps_a_file.nv.part";
-    // What a start that was cut leaves behind is no file yet, and is in nobody's way.
+    // What a start that was cut leaves is no file yet, and is in nobody's way.
     fs::write(&rt, part, b"cut".as_slice())?;
     let kept = file_keeps(&rt, path).expect(&rt, "start");
     holds(&rt, !is_there(&rt, part), "what was cut is gone");
@@ -260,7 +260,7 @@ fn seen_about_a_write<N: Nv>(nv: &mut N) -> Result<(Shown, Shown), NvFail> {
     Ok((before, shown(nv)))
 }
 
-/// So over the file at this path; one of eight bytes is made where there is none.
+/// The same over the file at this path; a file of eight bytes is made if there is no file.
 fn file_about_a_write(rt: &HostRuntime, path: &str) -> Result<(Shown, Shown), Fail> {
     let Ok(mut nv) = FileNv::start(rt, path, 8) else {
         return Err(Fail::from("start"));

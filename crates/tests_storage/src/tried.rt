@@ -1,5 +1,5 @@
-//! Stores over storage in memory, as rows see them: what their calls promise is not known behind `Tried`, so what is built on it is
-//! proved once and cheaply.
+//! Stores over storage in memory, as rows see them: `Tried` hides what their calls promise, so what is built on it is proved
+//! once and cheaply.
 ghost use Rattle.std.specs.Prelude.{◌≡◌, IfSome, false};
 ghost use Rattle.nv_model.specs.Fuses.{state_of};
 

@@ -534,7 +534,7 @@ fn replies_of_others(rt: HostRuntime) {
     }
 }
 
-// Whether the refusal is written as these words behind its front.
+// Whether the refusal is written as these words after its front.
 fn is_refused(reply: Reply, front: &str, words: &str) -> bool {
     let line = write_reply(&reply);
     let text = line.as_slice();

@@ -9,7 +9,7 @@ prefix_given : (n : ℕ) (prefix : List ℕ) (known : Option (List ℕ)) → Con
 prefix_given n prefix None = tt
 prefix_given n prefix (Some rest) = ap (λ (l : List ℕ). l ++ rest) (sym (take-append-drop n prefix)) ∙ append_assoc (take n prefix) (drop n prefix) rest
 
--- what is then in front lies behind it in the buffer
+-- what is then in front comes after it in the buffer
 prefix_left : (at n long : ℕ) (bytes : List ℕ) → n ≤ long → drop n (take long (drop at bytes)) ≡ take (long - n) (drop (at + n) bytes)
 prefix_left at n long bytes within =
     let is : long ≡ n + (long - n) = omega arith in

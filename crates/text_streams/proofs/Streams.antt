@@ -20,7 +20,7 @@ put_more a b c bytes at n fits first next =
     let whole = ap (λ t. take at bytes ++ t) short ∙ sym (take_parts bytes at n) in
     subst (Appends a c) whole (Appends-trans a b c _ _ first next)
 
--- what then stands in the prefix of the buffer
+-- what the prefix of the buffer has then
 take_read : (buffer room : List ℕ) (at k n : ℕ) → at ≤ length buffer → n ≤ length room → take (at + n) (put_mid at k buffer room) ≡ take at buffer ++ take n room
 take_read buffer room at k n inside fits =
     let prefix : length (take at buffer) ≡ at = length-take-le at buffer inside in
@@ -28,7 +28,7 @@ take_read buffer room at k n inside fits =
     ∙ take-append-add (take at buffer) (room ++ drop k (drop at buffer)) n
     ∙ ap (λ t. take at buffer ++ t) (take-append-le n room (drop k (drop at buffer)) fits)
 
--- one read more, behind what was read into the prefix of a buffer
+-- one read more, after what was read into the prefix of a buffer
 pub take_more : (a b c : Option (List ℕ)) (buffer room : List ℕ) (at k n : ℕ) → at ≤ length buffer → n ≤ length room → Consumes a b (take at buffer)
     → Consumes b c (take n room) → Consumes a c (take (at + n) (put_mid at k buffer room))
 take_more a b c buffer room at k n inside fits first next =

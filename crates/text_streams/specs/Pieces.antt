@@ -8,8 +8,8 @@ abbrev pub with_end : ℕ → Bool → List ℕ
 with_end value true = value ∷ []
 with_end value false = []
 
--- These bytes were given, none of which has the value, and were taken of the source with the one that has it, where it was reached. Nothing is given, though there is
--- room, only where the source has ended.
+-- These bytes were given, and no byte of them has the value. They were taken of the source, with the byte of the value if
+-- it was reached. If nothing is given, that byte is not reached, and there is room, the source has ended.
 pub record GivesPiece (value : ℕ) (left0 left1 : Option (List ℕ)) (piece : Piece) (old new : List ℕ) : Type 0 where
   pub inside : piece.len ≤ length old
   pub long : length new ≡ length old

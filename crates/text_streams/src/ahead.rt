@@ -25,7 +25,7 @@ pub struct ReadAhead<S: Source> {
 pub struct Piece {
     /// How many bytes.
     pub len: usize,
-    /// Whether that byte was reached, and taken behind them.
+    /// Whether that byte was reached, and taken after them.
     pub is_ended: bool,
 }
 
@@ -36,15 +36,16 @@ pub trait BufSource: Source {
     ghost use Rattle.bench_base.specs.Causes.{HasCause};
     ghost use Rattle.text_streams.specs.Pieces.{GivesPiece};
 
-    /// Gives bytes up to the first of this value, as many of them as stand ready and there is room for; and takes that byte behind them, where it is reached. What it gives ends before
-    /// that byte too where as much stands ready or there is room for, so only nothing, where there is room, says that the source has ended.
+    /// Gives bytes up to the first of this value, as many of them as are ready and there is room for. If that byte is
+    /// reached, it is taken after them, and not given. It may give fewer bytes than there are before that byte. The
+    /// source has ended if nothing is given and that byte is not reached, although there is room.
     fn read_until(&mut self, value: u8, buf: &mut [u8]) -> Result<Piece, ReadFail>
         ensures gives { IfOk result (λ piece. GivesPiece value (Self.left self.old) (Self.left self.new) piece buf.old buf.new) }
         ensures fails { OnErr result (Consumes (Self.left self.old) (Self.left self.new) []) }
         ensures cause { HasCause (Self.faults self.old) (Self.faults self.new) result };
 }
 
-// How many bytes stand before the first of this value; all of them, where there is none.
+// How many bytes are before the first of this value; all of them, if no byte has this value.
 fn count_before(bytes: &[u8], value: u8) -> usize
     ensures inside { result ≤ length bytes.now }
     ensures before { All (λ b. b ≢ value) (take result bytes.now) }
@@ -72,7 +73,7 @@ fn copy_prefix(prefix: &[u8], buf: &mut [u8]) -> usize
 }
 
 impl<S: Source> ReadAhead<S> {
-    /// Over a source, with a buffer that isn't empty. Nothing is read yet.
+    /// Reads ahead over a source, with a buffer that isn't empty. Nothing is read yet.
     pub fn new(inner: S, buffer: Vec<u8>) -> Self
         requires room { 0 < vec_len buffer }
         ensures left { ⟦<ReadAhead<S> as Source>⟧.left result ≡ S.left inner }
@@ -86,7 +87,7 @@ impl<S: Source> ReadAhead<S> {
         }
     }
 
-    // Reads ahead, where nothing is there that was. Where nothing is there afterwards, the source has ended.
+    // Reads ahead if nothing is left of what was read. If nothing is there afterwards, the source has ended.
     fn refill(&mut self) -> Result<(), ReadFail>
         ensures keeps { Keeps (⟦<ReadAhead<S> as Source>⟧.left self.old) (⟦<ReadAhead<S> as Source>⟧.left self.new) }
         ensures ended { OnOk result (self.new.at ≡ self.new.end → IsAtEnd (S.left self.new.inner)) }

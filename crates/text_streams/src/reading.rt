@@ -33,7 +33,7 @@ fn fill<R: Source>(source: &mut R, buffer: &mut [u8]) -> Result<usize, ReadFail>
     Ok(count)
 }
 
-/// Takes the bytes that are left in the source, at most `most` of them: fewer only where the source has ended behind them.
+/// Takes the bytes that are left in the source, at most `most` of them, and fewer only if the source has ended after them.
 /// Memory for `most` bytes is asked for before anything is read. With `Fault` the source's count of faults rose.
 pub fn take_text<R: Source>(alloc: Global, source: &mut R, most: usize) -> Result<Vec<u8>, TakeFail>
     ensures ok { IfOk result (λ text. TakesUpTo most text.items (R.left source.old) (R.left source.new)) }

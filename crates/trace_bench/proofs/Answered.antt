@@ -23,8 +23,7 @@ use Rattle.centre_ledger.specs.Plans.{says, told_balance}
 use Rattle.ledger_moves.specs.Tariffs.{Tariff}
 use Rattle.ledger_moves.specs.Moves.{answer}
 use Rattle.ledger_moves.specs.Histories.{History}
-use Rattle.bench_abstraction.specs.declared.calls.DeviceCall.TheVariants.{Status}
-use Rattle.bench_abstraction.specs.declared.calls.CentreCall.TheVariants.{Balance}
+use Rattle.bench_abstraction.specs.declared.{calls.DeviceCall.TheVariants.Status, calls.CentreCall.TheVariants.Balance}
 use Rattle.bench_abstraction.specs.Centre.{centre_kind}
 use Rattle.bench_abstraction.specs.Devices.{device_kind, IsKnown}
 use Rattle.bench_abstraction.specs.Follows.{DevicesFollow, CentreFollows}
@@ -53,7 +52,7 @@ status_answered follows τ H d today history day on named known =
     let told = is_told d today (view_in (Device d) (device_kind.seen d) H) on in
     ap (λ p. p.reply) (follows d τ H (ev.Status d) today (Call Status) history tt day named refl tt known (rw told.1 tt)).plan ∙ told.0
 
--- what the centre tells of a customer, where it is on: it commits nothing
+-- the centre's answer about a customer, if it is on: it commits nothing
 left_told : (w n : ℕ) (o : Option CustomerRow) (v : View centre.Seen) → v.on ≡ true
     → ((seen_plan centre.counting Centre v (says (told_balance w) (left_act w n o))).reply ≡ done_or (r.CentreRefused (no_centre.UnknownCustomer w)) (done_by (says (told_balance w) (left_act w n o))))
     × (commit_of centre.counting v (says (told_balance w) (left_act w n o)) ≡ None)

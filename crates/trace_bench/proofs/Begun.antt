@@ -1,4 +1,4 @@
--- What an auditor sees as a run begins, and before anything was told.
+-- What an auditor sees as a run begins, and before any line was judged.
 use Rattle.std.proofs.Common.{◌≡◌, ℕ, ◌+◌, List, [], ◌∷◌, length, None, false, refl, ◌∙◌, ap}
 use Rattle.bench_base.specs.declared.ledger.Entry.TheVariants.{Begin}
 use Rattle.bench_base.specs.Ledger.{Ledger}

@@ -1,12 +1,9 @@
 -- Events of no node, and each event without a day, by the ledger.
 use Rattle.std.proofs.Common.{◌≡◌, ◌≢◌, ℕ, ℤ, ◌+◌, ◌-◌, List, [], ◌∷◌, Option, Some, None, Bool, true, false, Result, Ok, Err, refl, sym, ◌∙◌, ap, subst, true≢false, is_some, arith}
 use Rattle.std.specs.Prelude.{◌&&◌, not, take, if◌then◌else◌}
-use Rattle.bench_base.specs.declared.words.Node.{Node}
-use Rattle.bench_base.specs.declared.words.Node.TheVariants.{Device, Centre}
+use Rattle.bench_base.specs.declared.{words.Node.Node, words.Node.TheVariants.Device, words.Node.TheVariants.Centre, events.Event.Event, events.Reply.Reply}
 use Rattle.bench_base.specs.declared.ledger.Entry.TheVariants as entry
-use Rattle.bench_base.specs.declared.events.Event.{Event}
 use Rattle.bench_base.specs.declared.events.Event.TheVariants as ev
-use Rattle.bench_base.specs.declared.events.Reply.{Reply}
 use Rattle.bench_base.specs.declared.events.Reply.TheVariants as r
 use Rattle.bench_base.specs.Events.{needs_day, takes_rates, IsWholeEvent}
 use Rattle.bench_base.specs.Plans.{refuse, told}
@@ -37,8 +34,7 @@ use Rattle.bench_abstraction.specs.Tariff.{IsOfTexts, quote}
 use Rattle.bench_abstraction.specs.Routing.{routed}
 use Rattle.bench_abstraction.proofs.Quiet.{plan_day, plan_end, plan_none}
 use Rattle.bench.proofs.Making.{get_some}
-use Rattle.trace_bench.specs.declared.judging.Heard.{Heard}
-use Rattle.trace_bench.specs.declared.judging.Finding.{Finding}
+use Rattle.trace_bench.specs.declared.{judging.Heard.Heard, judging.Finding.Finding}
 use Rattle.trace_device.specs.Records as device_records
 use Rattle.trace_centre.specs.Cells as centre_cells
 use Rattle.trace_views.specs.Verdicts.{Adds}
@@ -63,7 +59,7 @@ takes_undated e today left undated t = by (takes_rates e) (is_some today) undate
     by true false none = refl
     by false c none = refl
 
--- it refuses, or tells what it compared: it comes of no boot and prints nothing, and the ledger stays
+-- it refuses, or reports what it compared: it follows no boot and prints nothing, and the ledger stays
 pub record IsStill (x : Reply) : Type 0 where
   pub no_up : (m : Node) (k : ℕ) → x ≢ r.Up m k
   pub no_print : (j : ℕ) → x ≢ r.Printed j

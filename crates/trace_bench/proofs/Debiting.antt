@@ -3,11 +3,10 @@ use Rattle.std.proofs.Common.{◌≡◌, ◌≢◌, ◌⊎◌, inl, inr, ℕ, �
 use Rattle.std.specs.Prelude.{◌↔◌, ◌-◌, ◌≤◌, get_or, slice_get, slice_set}
 use Rattle.std.proofs.lemmas.Bool.{cases_eq}
 use Rattle.std.proofs.lemmas.Option.{same_Some, slice_get_cases, slice_get_within}
-use Rattle.bench_base.specs.declared.events.Reply.{Reply}
+use Rattle.bench_base.specs.declared.{events.Reply.Reply, events.Event.Event}
 use Rattle.bench_base.specs.Ranges.{IsDevice}
 use Rattle.bench_base.specs.Ledger.{Ledger, counted}
 use Rattle.bench_base.specs.Rules.{todays_rules, editions}
-use Rattle.bench_base.specs.declared.events.Event.{Event}
 use Rattle.node_acts.specs.declared.asked.Asked.{Asked}
 use Rattle.node_acts.specs.Views.{View}
 use Rattle.psd_state.specs.Seen as device_seen
@@ -18,11 +17,9 @@ use Rattle.ledger_moves.specs.Moves.{Moves, entries}
 use Rattle.ledger_moves.specs.Tariffs.{Tariff}
 use Rattle.debit_laws.specs.Debits.{IsDebited, IsLast, DebitsMore}
 use Rattle.bench_abstraction.specs.declared.calls.DeviceCall.{DeviceCall}
-use Rattle.trace_nodes.specs.declared.giving.GaveOut.{GaveOut}
-use Rattle.trace_nodes.specs.declared.traced.Traced.{Traced}
+use Rattle.trace_nodes.specs.declared.{giving.GaveOut.GaveOut, traced.Traced.Traced}
 use Rattle.trace_device.specs.declared.record.DeviceRecord.{DeviceRecord}
-use Rattle.trace_bench.specs.declared.judging.Heard.{Heard}
-use Rattle.trace_bench.specs.declared.judging.Finding.{Finding}
+use Rattle.trace_bench.specs.declared.{judging.Heard.Heard, judging.Finding.Finding}
 use Rattle.trace_bench.specs.Debits.{IsLastOf, OthersAlike, OthersRest}
 use Rattle.trace_bench.specs.Placed.{DeviceJudged}
 use Rattle.trace_bench.specs.Plainly.{heard_of_device}

@@ -4,15 +4,8 @@ use Rattle.std.specs.Prelude.{All}
 use Rattle.std.proofs.lemmas.Bool.{eqb-true}
 use Rattle.std.proofs.lemmas.Bool.Decides.{nat_tests}
 use Rattle.std.proofs.lemmas.List.Elements.{All-head, All-tail}
-use Rattle.bench_base.specs.declared.events.Event.{Event}
-use Rattle.bench_base.specs.declared.words.Node.{Node}
-use Rattle.bench_base.specs.declared.words.Node.TheVariants.{Device, Centre, Host, Verifier}
-use Rattle.bench_base.specs.declared.refusals.Unread.{Unread}
-use Rattle.bench_base.specs.declared.refusals.MarkFault.{MarkFault}
-use Rattle.bench_base.specs.declared.ledger.Commit.{Commit}
+use Rattle.bench_base.specs.declared.{events.Event.Event, words.Node.Node, words.Node.TheVariants.Device, words.Node.TheVariants.Centre, words.Node.TheVariants.Host, words.Node.TheVariants.Verifier, refusals.Unread.Unread, refusals.MarkFault.MarkFault, ledger.Commit.Commit, questions.Brought.Brought, questions.Brought.TheVariants.Nothing}
 use Rattle.bench_base.specs.declared.ledger.Commit.TheVariants as c
-use Rattle.bench_base.specs.declared.questions.Brought.{Brought}
-use Rattle.bench_base.specs.declared.questions.Brought.TheVariants.{Nothing}
 use Rattle.bench_base.specs.Events.{brought_by}
 use Rattle.bench_base.specs.Ranges.{IsDevice, InRange}
 use Rattle.bench_base.specs.Ledger.{Ledger, IsSent, IsReleased, counted}
@@ -47,7 +40,7 @@ use Rattle.trace_bench.specs.Telling.{OfDevice}
 use Rattle.trace_bench.specs.Forging.{is_unknown, forged_reply, forged_by, forged_message, forged_release, forged_mark, GivesForged, AreForged, BringsForged, TellsForged, TellsNot}
 use Rattle.trace_bench.proofs.Shown.{device_shown}
 
--- == what is told of one is told of the other ==
+-- == what is known of one is known of the other ==
 
 tells_same : (b : Bool) (P Q : Type 0) → (P → Q) → (Q → P) → TellsNot b P → TellsNot b Q
 tells_same true P Q there back tells = λ q. tells (back q)
@@ -236,7 +229,7 @@ told_mark a kept H sees bytes x range b is =
     (mark_tells bytes a.known.released (scan_cells.cells_of a.verifier.record) H (sees.known.released kept bytes)
     (λ d. ap (λ (v : View verifier.Seen). verifier.key_at v.state d) sees.run.verifier ∙ key_after (counted H) d range) x)
 
--- == nothing is brought ==
+-- == the event contains no bytes ==
 
 pub none_forged : (a : Audit) (e : Event) → brought_by e ≡ Nothing → BringsForged a e false
 none_forged a e is = subst (λ (x : Brought). AreForged a x false) (sym is) refl

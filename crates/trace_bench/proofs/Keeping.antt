@@ -18,7 +18,7 @@ joined a b L c = (
   λ l. elim (c.0 l) [ inl r ↦ a.1 (inl r) | inr q ↦ a.1 (inr (b.1 q)) ],
 )
 
--- the marks of which S holds are debited too
+-- the marks that have S are debited too
 abbrev pub DebitsAlso : (List ℕ → Type 0) → Ledger → Ledger → Type 0
 DebitsAlso S H L = (mark : List ℕ) → IsDebited mark (counted L) ↔ (IsDebited mark (counted H) ⊎ S mark)
 
@@ -34,7 +34,7 @@ knows_more sent released S old new H L learns ticks knows adds debits = record {
   debited = tells_more (λ mark. IsDebited mark (counted H)) (λ mark. IsDebited mark (counted L)) S old.seen new.seen debits ticks knows.debited;
 }
 
--- what is told of marks that were seen is no part of it
+-- what is recorded of marks that were seen is no part of it
 pub learns_beside : (sent released : Option (List ℕ)) (old new : Known) (s : SeenMarks) → Learns sent released (record old { seen = s }) new → Learns sent released old new
 learns_beside sent released old new s learns = record { kept = learns.kept; sends = learns.sends; releases = learns.releases }
 
@@ -59,7 +59,7 @@ knows_blank k blank = record {
   debited = tells_none (λ mark. IsDebited mark []) k.seen blank.unseen;
 }
 
--- nothing is debited at the empty ledger, so a mark more that was seen is told so
+-- nothing is debited at the empty ledger, so one more mark that was seen is recorded as not debited
 pub debits_added : {E : Type 0} (mark : List ℕ) (line : ℕ) (old new : SeenMarks) (r : Result (Option ℕ) E) → OnOk r (Adds mark line old new) → OnErr r ((q : List ℕ) → seen_as new q ≡ seen_as old q)
     → TellsDebits old [] → TellsDebits new []
 debits_added mark line old new (Ok first) adds same tells = tells_added (λ q. IsDebited q []) mark line old new (λ is. is) adds tells

@@ -1,8 +1,7 @@
 -- What is judged of a line by the ledger, of an event that reads no rates.
 use Rattle.std.proofs.Common.{◌≡◌, ◌≢◌, ℕ, ℤ, List, [], length, false, Option, refl, sym, ◌∙◌, ap, subst}
-use Rattle.bench_base.specs.declared.events.Event.{Event}
+use Rattle.bench_base.specs.declared.{events.Event.Event, events.Reply.Reply}
 use Rattle.bench_base.specs.declared.events.Event.TheVariants as ev
-use Rattle.bench_base.specs.declared.events.Reply.{Reply}
 use Rattle.bench_base.specs.Replies.{ReplyClass, Did, class_of}
 use Rattle.bench_base.specs.Rules.{todays_rules}
 use Rattle.bench_base.specs.Ledger.{Ledger, day_in}
@@ -18,7 +17,7 @@ pub not_rates : (e : Event) → e ≢ ev.Rates → takes_rates e ≡ false
 not_rates ev.Rates not = absurd (not refl)
 not_rates _ not = refl
 
--- it takes nothing of the rates, whatever it is told
+-- it takes nothing of the rates, whatever its reply
 abbrev pub TakesNone : Event → Option ℤ → List ℕ → Type 0
 TakesNone e today left = (t : ReplyClass) → taken_by e today t left ≡ []
 

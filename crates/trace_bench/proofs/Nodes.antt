@@ -1,11 +1,8 @@
 -- What is heard of an event of a node, by the ledger.
 use Rattle.std.proofs.Common.{◌≡◌, ◌≢◌, ℕ, ℤ, List, ◌++◌, Option, Some, None, Result, Ok, Err, append-nil, refl, sym, ◌∙◌, ap, subst}
 use Rattle.std.specs.Prelude.{slice_set}
-use Rattle.bench_base.specs.declared.words.Node.{Node}
-use Rattle.bench_base.specs.declared.words.Node.TheVariants.{Device, Centre, Host, Verifier}
-use Rattle.bench_base.specs.declared.events.Event.{Event}
+use Rattle.bench_base.specs.declared.{words.Node.Node, words.Node.TheVariants.Device, words.Node.TheVariants.Centre, words.Node.TheVariants.Host, words.Node.TheVariants.Verifier, events.Event.Event, events.Reply.Reply}
 use Rattle.bench_base.specs.declared.events.Event.TheVariants as ev
-use Rattle.bench_base.specs.declared.events.Reply.{Reply}
 use Rattle.bench_base.specs.Rules.{editions}
 use Rattle.bench_base.specs.Ledger.{Ledger, day_in}
 use Rattle.bench_base.specs.Events.{IsWholeEvent}
@@ -18,13 +15,8 @@ use Rattle.verifier.specs.declared.acts.Change.{Change}
 use Rattle.host_rates.specs.Laws.{KeptPrices}
 use Rattle.ledger_moves.specs.Tariffs.{Tariff}
 use Rattle.ledger_moves.specs.Histories.{History, Unforged}
-use Rattle.bench_abstraction.specs.declared.calls.DeviceCall.{DeviceCall}
-use Rattle.bench_abstraction.specs.declared.calls.CentreCall.{CentreCall}
-use Rattle.bench_abstraction.specs.declared.calls.HostCall.{HostCall}
-use Rattle.bench_abstraction.specs.declared.calls.VerifierCall.{VerifierCall}
-use Rattle.bench_abstraction.specs.declared.routing.Routed.{Routed}
+use Rattle.bench_abstraction.specs.declared.{calls.DeviceCall.DeviceCall, calls.CentreCall.CentreCall, calls.HostCall.HostCall, calls.VerifierCall.VerifierCall, routing.Routed.Routed, routing.OfDay.OfDay}
 use Rattle.bench_abstraction.specs.declared.routing.Routed.TheVariants as route
-use Rattle.bench_abstraction.specs.declared.routing.OfDay.{OfDay}
 use Rattle.bench_abstraction.specs.declared.routing.OfDay.TheVariants as of_day
 use Rattle.bench_abstraction.specs.Centre as centres
 use Rattle.bench_abstraction.specs.Verifier as verifiers
@@ -33,10 +25,11 @@ use Rattle.bench_abstraction.specs.Kinds.{bench_kinds}
 use Rattle.bench_abstraction.specs.Messages.{sent_in}
 use Rattle.bench_abstraction.specs.Tariff.{IsOfTexts, Quote, quote, quote_in}
 use Rattle.bench_abstraction.specs.Routing.{routed}
-use Rattle.trace_nodes.specs.declared.giving.GaveOut.{GaveOut}
-use Rattle.trace_nodes.specs.declared.printing.PrintOutcome.{PrintOutcome}
-use Rattle.trace_nodes.specs.declared.traced.Traced.{Traced}
+use Rattle.trace_nodes.specs.declared.{giving.GaveOut.GaveOut, printing.PrintOutcome.PrintOutcome, traced.Traced.Traced}
 use Rattle.trace_views.specs.Verdicts.{listed}
+use Rattle.trace_views.specs.Verdicts as verdicts
+use Rattle.centre_ledger.specs.Seen as centre_counts
+use Rattle.verifier.specs.Seen as verifier_counts
 use Rattle.trace_device.specs.declared.record.DeviceRecord.{DeviceRecord}
 use Rattle.trace_centre.specs.declared.record.CentreRecord.{CentreRecord}
 use Rattle.trace_host.specs.declared.record.HostRecord.{HostRecord}
@@ -117,7 +110,7 @@ module _ (old : Audit) (e : Event) (prices : KeptPrices) (whole : IsWholeEvent e
       none : TakesNone e (day_in H) left
       none = takes_none e (day_in H) left (not_for_rates old.messages (quote old.rates) e (of_day.Centre asked) is (λ same. cc))
 
-      by : (r : Result (Option (List ℕ)) Reply) → centre_verdicts.MovesBy τ H e line (centre.view_of now) r → IsHeard τ H e left line (record old { centre = now }) (heard_of r)
+      by : (r : Result (Option (List ℕ)) Reply) → verdicts.MovesBy centre_counts.counting centres.centre_kind Centre tt τ H e line (centre.view_of now) r → IsHeard τ H e left line (record old { centre = now }) (heard_of r)
       by (Ok sent) so = (
         so.0,
         lift_told τ H e left line none (sending sent (record old { centre = now })) so.0 so.1.text so.1.whole so.1.moves (sees_centre old H _ sees sent so.1.rests so.1.sends now so.1.here so.1.others),
@@ -151,7 +144,7 @@ module _ (old : Audit) (e : Event) (prices : KeptPrices) (whole : IsWholeEvent e
       none : TakesNone e (day_in H) left
       none = takes_none e (day_in H) left (not_for_rates old.messages (quote old.rates) e (of_day.Verifier asked) is (λ same. cc))
 
-      by : (r : Result (Option (List ℕ)) Reply) → verifier_verdicts.MovesBy τ H e line (verifier.view_of now) r → IsHeard τ H e left line (record old { verifier = now }) (heard_of r)
+      by : (r : Result (Option (List ℕ)) Reply) → verdicts.MovesBy verifier_counts.counting verifiers.verifier_kind Verifier tt τ H e line (verifier.view_of now) r → IsHeard τ H e left line (record old { verifier = now }) (heard_of r)
       by (Ok sent) so = (
         so.0,
         lift_told τ H e left line none (sending sent (record old { verifier = now })) so.0 so.1.text so.1.whole so.1.moves (sees_verifier old H _ sees sent so.1.rests so.1.sends now so.1.here so.1.others),

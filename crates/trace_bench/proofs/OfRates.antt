@@ -21,8 +21,7 @@ use Rattle.bench_abstraction.specs.Tariff.{IsOfTexts}
 use Rattle.bench_abstraction.proofs.RatesPlans.{plan_of, planned, are_rates, plan_rates}
 use Rattle.bench.specs.Outside.{rates_turn, rates_after}
 use Rattle.script_text.specs.Texts.{text_of}
-use Rattle.trace_bench.specs.declared.judging.Finding.{Finding}
-use Rattle.trace_bench.specs.declared.judging.Finding.TheVariants.{Wrong, Memory}
+use Rattle.trace_bench.specs.declared.{judging.Finding.Finding, judging.Finding.TheVariants.Wrong, judging.Finding.TheVariants.Memory}
 use Rattle.trace_views.specs.Verdicts.{Adds}
 use Rattle.trace_bench.specs.Judging.{taken_by, text_with, IsHeard}
 use Rattle.trace_bench.specs.Plainly.{heard_of_rates}
@@ -49,7 +48,7 @@ silent text (Err fail.Toml) = record { silent = refl; no_up = λ m k is. cc; no_
 silent text (Err fail.Form) = record { silent = refl; no_up = λ m k is. cc; no_print = λ j is. cc; adds = λ L. read_adds text (Err fail.Form) L }
 silent text (Err (fail.Memory x)) = record { silent = refl; no_up = λ m k is. cc; no_print = λ j is. cc; adds = λ L. read_adds text (Err (fail.Memory x)) L }
 
--- an answer doesn't tell that the source failed
+-- an answer doesn't report that the source failed
 was_read : (text : List ℕ) (x : Result RateTable RatesFail) → fails_to_read (class_of (plan_of text x).reply) ≡ false
 was_read text (Ok x) = refl
 was_read text (Err (fail.Length n)) = refl

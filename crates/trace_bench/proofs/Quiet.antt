@@ -1,8 +1,6 @@
--- An event whose plan commits nothing, and neither brings a node on nor prints, is answered by its plan alone.
+-- An event is answered by its plan alone, if that plan commits nothing, turns no node on and prints nothing.
 use Rattle.std.proofs.Common.{◌≡◌, ◌≢◌, inl, inr, ℕ, List, [], Option, Some, None, Result, Ok, Err, refl, sym, ◌∙◌, ap, subst}
-use Rattle.bench_base.specs.declared.words.Node.{Node}
-use Rattle.bench_base.specs.declared.events.Event.{Event}
-use Rattle.bench_base.specs.declared.events.Reply.{Reply}
+use Rattle.bench_base.specs.declared.{words.Node.Node, events.Event.Event, events.Reply.Reply}
 use Rattle.bench_base.specs.declared.events.Reply.TheVariants as r
 use Rattle.bench_base.specs.Plans.{Plan}
 use Rattle.bench_base.specs.Replies.{ReplyClass, Did, Refused, Armed, CameOn, WentOff, LostPower, Faulted, WasDamaged, PrinterFailed, RatesFailed, class_of}
@@ -13,9 +11,7 @@ use Rattle.node_acts.specs.Plans.{Fails, FailsTold, after}
 use Rattle.ledger_moves.specs.Tariffs.{Tariff}
 use Rattle.ledger_moves.specs.Moves.{Moves, FailsToRead, plan, entries}
 use Rattle.script_text.specs.Texts.{text_of}
-use Rattle.trace_bench.specs.declared.judging.Heard.{Heard}
-use Rattle.trace_bench.specs.declared.judging.Finding.{Finding}
-use Rattle.trace_bench.specs.declared.judging.Finding.TheVariants.{Wrong, Memory}
+use Rattle.trace_bench.specs.declared.{judging.Heard.Heard, judging.Finding.Finding, judging.Finding.TheVariants.Wrong, judging.Finding.TheVariants.Memory}
 use Rattle.trace_views.specs.Verdicts.{Adds}
 use Rattle.trace_bench.specs.Judging.{IsHeard, ledger_with}
 use Rattle.trace_bench.specs.Plainly.{IsPlainly}
@@ -23,7 +19,7 @@ use Rattle.trace_bench.specs.Seeing.{Audit, SeesRun, sending}
 use Rattle.trace_bench.proofs.Lifting.{TakesNone, nothing_taken, lift_told, lift_untold, lift_adds}
 use Rattle.trace_bench.proofs.Seen.{sends_nothing}
 
--- the plan tells of no failure that may come, nor of a print
+-- the plan has no failure that may happen, and no print
 pub record IsSilent (p : Plan) : Type 0 where
   pub silent : p.commit ≡ None
   pub no_up : (m : Node) (k : ℕ) → p.reply ≢ r.Up m k

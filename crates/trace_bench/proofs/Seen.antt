@@ -1,9 +1,8 @@
--- After an event of one node the auditor sees what the ledger shows: that node as it was judged, what was sent, and all else as before.
+-- After an event of one node the auditor sees what the ledger shows: that node as it was judged, what was sent, and everything otherwise unchanged.
 use Rattle.std.proofs.Common.{◌≡◌, ◌≢◌, ℕ, zero, suc, ◌+◌, ◌<◌, List, [], ◌∷◌, ◌++◌, length, Option, Some, None, ⊎_elim, append-nil, refl, sym, ◌∙◌, ap, subst, arith}
 use Rattle.std.specs.Prelude.{slice_get, slice_set}
-use Rattle.std.proofs.lemmas.Option.{slice_get_within}
+use Rattle.std.proofs.lemmas.Option.{slice_get_within, slice_get-get_or, same_Some}
 use Rattle.std.proofs.lemmas.Bool.{cases_eq}
-use Rattle.std.proofs.lemmas.Option.{slice_get-get_or, same_Some}
 use Rattle.std.proofs.lemmas.List.{get_or-set_same, length-set}
 use Rattle.bench_base.specs.declared.words.Node.TheVariants.{Device, Centre, Host, Verifier}
 use Rattle.bench_base.specs.Ledger.{Ledger}
@@ -23,7 +22,7 @@ use Rattle.trace_verifier.specs.Cells as verifier
 use Rattle.trace_views.specs.Verdicts.{listed}
 use Rattle.trace_bench.specs.Seeing.{Audit, AreSettled, SeesRun, sending}
 
--- what stands at the places of a list of which one was set
+-- what is at the places of a list after one was set
 set_same : {X : Type 0} (xs : List X) (i : ℕ) (x y : X) → i < length xs → slice_get (slice_set xs i x) i ≡ Some y → y ≡ x
 set_same xs i x y lt is = same_Some _ _ (sym is ∙ slice_get-get_or (slice_set xs i x) i x (omega (arith, length-set xs i x)) ∙ ap (λ z. Some z) (get_or-set_same xs i x x lt))
 

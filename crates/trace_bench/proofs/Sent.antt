@@ -1,16 +1,12 @@
 -- What is judged of a line, once its message is sent.
 use Rattle.std.proofs.Common.{ℕ, List, Result, Ok, Err, sym, ◌∙◌, subst}
-use Rattle.bench_base.specs.declared.events.Event.{Event}
-use Rattle.bench_base.specs.declared.events.Reply.{Reply}
+use Rattle.bench_base.specs.declared.{events.Event.Event, events.Reply.Reply}
 use Rattle.bench_base.specs.Ledger.{Ledger}
 use Rattle.ledger_moves.specs.Tariffs.{Tariff}
-use Rattle.trace_bench.specs.declared.judging.Heard.{Heard}
-use Rattle.trace_bench.specs.declared.judging.Finding.{Finding}
-use Rattle.trace_bench.specs.declared.judging.Finding.TheVariants.{Wrong, Memory}
+use Rattle.trace_bench.specs.declared.{judging.Heard.Heard, judging.Finding.Finding, judging.Finding.TheVariants.Wrong, judging.Finding.TheVariants.Memory, known.Known.Known}
 use Rattle.trace_bench.specs.Debits.{IsLastOf}
 use Rattle.trace_bench.specs.Judging.{MayGet, ledger_with, IsUntold, IsUntoldBy, IsHeard, IsJudged}
 use Rattle.trace_bench.specs.Plainly.{SendsHeard}
-use Rattle.trace_bench.specs.declared.known.Known.{Known}
 use Rattle.trace_bench.specs.Known.{Knows}
 use Rattle.trace_bench.specs.Seeing.{Audit, Sees, SeesRun, sending}
 use Rattle.trace_bench.proofs.Keeping.{DebitsAlso, knows_more}

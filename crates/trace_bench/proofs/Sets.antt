@@ -37,7 +37,7 @@ module _ {K : Type 0} (items : K → List ℕ) where
   last k q false true found is = (λ has. inl (sym ((bytes_eq-Decides q (items k)).0 (sym is))), λ e. refl)
   last k q false false found is = (λ has. inr has, λ e. elim e [ inl same ↦ absurd (other k q is same) | inr there ↦ there ])
 
-  -- what is put behind the list
+  -- what is put at the end of the list
   pub put_last : (k : K) (old new : List K) (q : List ℕ) (found : Bool) → new ≡ old ++ k ∷ [] → IsTrue (among q new || found) ↔ ((items k ≡ q) ⊎ IsTrue (among q old || found))
   put_last k old new q found is =
       subst (λ (b : Bool). IsTrue (b || found) ↔ ((items k ≡ q) ⊎ IsTrue (among q old || found))) (sym (ap (among q) is ∙ list_any-append (λ x. bytes_eq q (items x)) old (k ∷ [])))

@@ -4,10 +4,7 @@ use Rattle.std.specs.Prelude.{◌&&◌, ◌==◌, not, take, is_some, if◌then�
 use Rattle.std.proofs.lemmas.Bool.{cases_eq}
 use Rattle.std.proofs.lemmas.Bool.Decides.{Decides-eqb}
 use Rattle.std.proofs.lemmas.List.{nil_from_length}
-use Rattle.bench_base.specs.declared.words.Node.{Node}
-use Rattle.bench_base.specs.declared.words.Node.TheVariants.{Device, Centre, Host, Verifier}
-use Rattle.bench_base.specs.declared.events.Event.{Event}
-use Rattle.bench_base.specs.declared.events.Reply.{Reply}
+use Rattle.bench_base.specs.declared.{words.Node.Node, words.Node.TheVariants.Device, words.Node.TheVariants.Centre, words.Node.TheVariants.Host, words.Node.TheVariants.Verifier, events.Event.Event, events.Reply.Reply}
 use Rattle.bench_base.specs.declared.events.Reply.TheVariants as r
 use Rattle.bench_base.specs.Ranges.{IsNode}
 use Rattle.bench_base.specs.Replies.{Did, class_of, fails_to_read}
@@ -50,7 +47,7 @@ numbered Centre is = (omega arith, omega arith)
 numbered Host is = (omega arith, omega arith)
 numbered Verifier is = (omega arith, omega arith)
 
--- what tells no failure doesn't tell that the rates can't be read
+-- a reply that reports no failure doesn't report that the rates can't be read
 read_fine : (x : Reply) → is_failure x ≡ false → fails_to_read (class_of x) ≡ false
 read_fine r.RatesFault wrong = absurd (true≢false wrong)
 read_fine _ is = refl
@@ -142,7 +139,7 @@ module _ (τ : Tariff) (H : Ledger) (e : Event) (left prefix : List ℕ) where
     due_fine : fails_to_read (class_of due) ≡ false
     due_fine = read_fine due (ap is_failure due_is ∙ answers_fine T)
 
-    -- the answer to what is taken with a reply that tells no fault of the rates
+    -- the answer to what is taken with a reply that reports no fault of the rates
     answered : (reply : Reply) → fails_to_read (class_of reply) ≡ false → due ≡ answer τ todays_rules H e (text reply)
     answered reply fine = due_is ∙ ap (λ (t : List ℕ). answer τ todays_rules H e t) (sym (fine_text reply fine))
 
@@ -266,7 +263,7 @@ module _ (τ : Tariff) (H : Ledger) (e : Event) (left prefix : List ℕ) where
           | inr fault ↦ none_fails lost w.0 (inr (subst (λ (x : Reply). MayBegin τ H e left prefix x) fault may))
         ]
 
-  -- the event was done with this reply, and told with one of the same text
+  -- the event was done with this reply, and recorded with one of the same text
   pub done_begun : (now : Audit) (reply : Reply) → MayBegin τ H e left prefix reply → (IsInDoubt τ H e left prefix → ⊥) → (x : Reply) × IsTold τ H e left (text_of reply) now x
       → IsBegun τ H e left prefix now × IsDoneWith τ H e left prefix (Some reply)
   done_begun now reply may certain (x, it) = (

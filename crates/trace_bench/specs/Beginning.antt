@@ -1,4 +1,4 @@
--- Nodes of which nothing was told, and nodes that were switched off as a run begins.
+-- Nodes about which nothing is known, and nodes that were switched off as a run begins.
 use Rattle.std.specs.Prelude.{◌≡◌, ℕ, List, [], length, Some, false, slice_get, slice_set}
 use Rattle.bench_base.specs.declared.words.Node.TheVariants.{Device, Centre, Host, Verifier}
 use Rattle.node_acts.specs.Kinds.{view_in}

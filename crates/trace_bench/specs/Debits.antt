@@ -7,10 +7,9 @@ use Rattle.trace_nodes.specs.declared.traced.Traced.{Traced}
 use Rattle.trace_device.specs.declared.record.DeviceRecord.{DeviceRecord}
 use Rattle.trace_seen.specs.declared.marks.SeenMarks.{SeenMarks}
 use Rattle.trace_seen.specs.Marks.{Tells}
-use Rattle.trace_bench.specs.declared.judging.Heard.{Heard}
-use Rattle.trace_bench.specs.declared.judging.Finding.{Finding}
+use Rattle.trace_bench.specs.declared.{judging.Heard.Heard, judging.Finding.Finding}
 
--- EACH MARK THAT WAS SEEN is told as debited if and only if a debit with this mark counts at the ledger
+-- EACH MARK THAT WAS SEEN is recorded as debited if and only if a debit with this mark counts at the ledger
 abbrev pub TellsDebits : SeenMarks → Ledger → Type 0
 TellsDebits s H = Tells (λ mark. IsDebited mark (counted H)) s
 

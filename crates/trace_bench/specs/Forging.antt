@@ -1,12 +1,6 @@
 -- Whether bytes from outside are forged, by what the auditor has: the keys of its records, and what was sent and released in all runs.
 use Rattle.std.specs.Prelude.{◌≡◌, ℕ, Bool, false, not, ◌&&◌, nat_le, List, Option, Some, None, option_map, Result, Ok, Err, ◌==◌, if◌then◌else◌, MatchBool}
-use Rattle.bench_base.specs.declared.words.Node.{Node}
-use Rattle.bench_base.specs.declared.words.Node.TheVariants.{Device, Centre, Host, Verifier}
-use Rattle.bench_base.specs.declared.refusals.Unread.{Unread}
-use Rattle.bench_base.specs.declared.refusals.MarkFault.{MarkFault}
-use Rattle.bench_base.specs.declared.events.Event.{Event}
-use Rattle.bench_base.specs.declared.questions.Brought.{Brought}
-use Rattle.bench_base.specs.declared.questions.Brought.TheVariants.{Nothing, Handed, Scanned}
+use Rattle.bench_base.specs.declared.{words.Node.Node, words.Node.TheVariants.Device, words.Node.TheVariants.Centre, words.Node.TheVariants.Host, words.Node.TheVariants.Verifier, refusals.Unread.Unread, refusals.MarkFault.MarkFault, events.Event.Event, questions.Brought.Brought, questions.Brought.TheVariants.Nothing, questions.Brought.TheVariants.Handed, questions.Brought.TheVariants.Scanned}
 use Rattle.bench_base.specs.Events.{brought_by}
 use Rattle.bench_base.specs.Ledger.{Ledger}
 use Rattle.bench_base.specs.Rules.{editions}
@@ -26,8 +20,7 @@ use Rattle.ledger_moves.specs.Histories.{History, Unforged}
 use Rattle.trace_device.specs.Records.{seen_of}
 use Rattle.trace_centre.specs.Cells as centre_cells
 use Rattle.trace_verifier.specs.Cells as verifier_cells
-use Rattle.trace_bench.specs.declared.known.ByteSet.{ByteSet}
-use Rattle.trace_bench.specs.declared.known.Known.{Known}
+use Rattle.trace_bench.specs.declared.{known.ByteSet.ByteSet, known.Known.Known}
 use Rattle.trace_bench.specs.Known.{has, IsAllFound, KeepsSame}
 use Rattle.trace_bench.specs.Seeing.{Audit, Sees}
 use Rattle.trace_bench.specs.Telling.{OfDevice}
@@ -75,7 +68,7 @@ forged_mark s bytes known (Err fault) = false
 
 -- == before it is asked ==
 
--- the auditor has the same: the same is kept of all runs, and all else is as it was
+-- the auditor has the same: the same is kept of all runs, and everything otherwise is as it was
 pub record IsSame (old new : Audit) : Type 0 where
   pub others : new ≡ record old { known = new.known }
   pub keeps : KeepsSame old.known new.known
@@ -98,7 +91,7 @@ GivesForged a Centre bytes b = b ≡ forged_message (books_in (centre_cells.cell
 GivesForged a Host bytes b = b ≡ forged_release a.known.released (read bytes)
 GivesForged a Verifier bytes b = b ≡ false
 
--- whether what is brought is forged, by the records of the auditor and what it keeps of all runs
+-- whether these bytes are forged, by the records of the auditor and what it keeps of all runs
 abbrev pub AreForged : Audit → Brought → Bool → Type 0
 AreForged a Nothing b = b ≡ false
 AreForged a (Handed n bytes) b = GivesForged a n bytes b
@@ -117,6 +110,6 @@ TellsNot b P = MatchBool b (P → ⊥) P
 abbrev pub AtHistory : Audit → (Ledger → Type 0) → Type 0
 AtHistory a P = (τ : Tariff) (H : Ledger) → History τ editions H → Sees a H → P H
 
--- whether the event brings something forged, at each history that the auditor has
+-- whether the event contains forged bytes, at each history that the auditor has
 abbrev pub TellsForged : Audit → Event → Bool → Type 0
 TellsForged a e b = AtHistory a (λ H. TellsNot b (Unforged e H))

@@ -1,7 +1,6 @@
--- What the line of the report tells of an event, by the ledger.
+-- What the line of the report shows about an event, by the ledger.
 use Rattle.std.specs.Prelude.{◌≡◌, ◌≢◌, ℕ, ℤ, List, [], length, take, not, ◌&&◌, is_some, if◌then◌else◌, Option, Result, Ok, Err}
-use Rattle.bench_base.specs.declared.events.Event.{Event}
-use Rattle.bench_base.specs.declared.events.Reply.{Reply}
+use Rattle.bench_base.specs.declared.{events.Event.Event, events.Reply.Reply}
 use Rattle.bench_base.specs.Events.{takes_rates}
 use Rattle.bench_base.specs.Replies.{ReplyClass, Did, class_of, fails_to_read}
 use Rattle.bench_base.specs.Rules.{todays_rules, editions}
@@ -11,9 +10,7 @@ use Rattle.ledger_moves.specs.Moves.{Moves, answer, entries}
 use Rattle.ledger_moves.specs.Histories.{History, Unforged}
 use Rattle.bench_abstraction.specs.Tariff.{IsOfTexts}
 use Rattle.script_text.specs.Texts.{text_of, IsWholeReply}
-use Rattle.trace_bench.specs.declared.judging.Heard.{Heard}
-use Rattle.trace_bench.specs.declared.judging.Finding.{Finding}
-use Rattle.trace_bench.specs.declared.judging.Finding.TheVariants.{Wrong, Memory}
+use Rattle.trace_bench.specs.declared.{judging.Heard.Heard, judging.Finding.Finding, judging.Finding.TheVariants.Wrong, judging.Finding.TheVariants.Memory}
 use Rattle.trace_views.specs.Verdicts.{Adds}
 use Rattle.trace_bench.specs.Seeing.{Audit, Sees, SeesRun, sending}
 
@@ -35,7 +32,7 @@ module _ (τ : Tariff) (H : Ledger) (e : Event) (left line : List ℕ) where
   abbrev pub ledger_with : Reply → Ledger
   ledger_with reply = entries τ todays_rules H e (text_with reply) reply
 
-  -- the line is that of this reply, whose numbers are in range and which the event may get, and P holds of the ledger that it leaves
+  -- the line is that of this reply, its numbers are in range, the event may get it, and P holds of the ledger that it leaves
   pub record IsToldBy (P : Ledger → Type 0) (reply : Reply) : Type 0 where
     pub text : text_of reply ≡ line
     pub whole : IsWholeReply reply
@@ -57,7 +54,8 @@ module _ (τ : Tariff) (H : Ledger) (e : Event) (left line : List ℕ) where
 
   -- what is judged of the line: how much of the rates was taken, what is sent next, and what is added to what was sent and released in all runs
   abbrev pub IsHeard : Audit → Result Heard Finding → Type 0
-  IsHeard a (Ok heard) = (reply : Reply) × IsToldBy (SeesRun (sending heard.sent a)) reply × (heard.taken ≡ length (text_with reply)) × Adds heard.sent heard.released H (ledger_with reply)
+  IsHeard a (Ok heard) = (reply : Reply) × IsToldBy (SeesRun (sending heard.sent a)) reply × (heard.taken ≡ length (text_with reply))
+      × Adds heard.sent heard.released H (ledger_with reply)
   IsHeard a (Err (Wrong due)) = IsUntoldBy (SeesRun a) due
   IsHeard a (Err Memory) = Unit {0}
 
@@ -67,7 +65,7 @@ module _ (τ : Tariff) (H : Ledger) (e : Event) (left line : List ℕ) where
   IsJudged a (Err (Wrong due)) = IsUntold a due
   IsJudged a (Err Memory) = Unit {0}
 
--- P at each history that the auditor has, at which the event brings nothing forged, by a tariff of texts
+-- P at each history that the auditor has, if the event contains nothing forged at it, by a tariff of texts
 abbrev pub AtEach : Audit → Event → (Tariff → Ledger → Type 0) → Type 0
 AtEach a e P = (τ : Tariff) (H : Ledger) → IsOfTexts τ → History τ editions H → Unforged e H → Sees a H → P τ H
 

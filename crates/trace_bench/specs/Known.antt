@@ -4,8 +4,7 @@ use Rattle.std.specs.List.{list_any}
 use Rattle.bench_base.specs.Ledger.{Ledger, IsSent, IsReleased}
 use Rattle.trace_seen.specs.Marks.{asked, seen_as}
 use Rattle.trace_bench.specs.Debits.{TellsDebits}
-use Rattle.trace_bench.specs.declared.known.ByteSet.{ByteSet}
-use Rattle.trace_bench.specs.declared.known.Known.{Known}
+use Rattle.trace_bench.specs.declared.{known.ByteSet.ByteSet, known.Known.Known}
 
 -- == bytes that are kept, of values of any kind ==
 
@@ -37,7 +36,7 @@ module _ {K : Type 0} (bytes_of : K → List ℕ) where
 abbrev pub IsAllFound : {K : Type 0} → ByteSet K → Type 0
 IsAllFound s = s.list.items ≡ []
 
--- == messages and marks, each of which is its bytes ==
+-- == messages and marks, each the same as its bytes ==
 
 abbrev pub has : List ℕ → ByteSet (List ℕ) → Bool
 has = has_by (λ v. v)
@@ -45,7 +44,7 @@ has = has_by (λ v. v)
 abbrev pub Has : List ℕ → ByteSet (List ℕ) → Type 0
 Has bytes s = IsTrue (has bytes s)
 
--- what is kept of all runs: whether all that was sent and released, and which marks were seen, each with the line that has it first
+-- what is kept of all runs: whether all that was sent and released, and which marks were seen, each with the first line that contains it
 pub record Kept : Type 0 where
   pub all : Bool
   pub seen : List (List ℕ × ℕ)
@@ -65,15 +64,15 @@ pub record Learns (sent released : Option (List ℕ)) (old new : Known) : Type 0
   pub sends : IsTrue old.is_kept → (bytes : List ℕ) → Has bytes new.sent ↔ ((sent ≡ Some bytes) ⊎ Has bytes old.sent)
   pub releases : IsTrue old.is_kept → (mark : List ℕ) → Has mark new.released ↔ ((released ≡ Some mark) ⊎ Has mark old.released)
 
--- the same messages and marks are kept, and the same is told of the marks that were seen
+-- the same messages and marks are kept, and the same is recorded of the marks that were seen
 pub record KeepsSame (old new : Known) : Type 0 where
   pub kept : new.is_kept ≡ old.is_kept
   pub seen : new.seen ≡ old.seen
   pub sent : (bytes : List ℕ) → Has bytes new.sent ↔ Has bytes old.sent
   pub released : (mark : List ℕ) → Has mark new.released ↔ Has mark old.released
 
--- WHAT IS KEPT is what was sent and released at the ledger, in any run, if it is kept at all; and of the marks that were seen those are told as debited whose debits
--- count there, and no others
+-- WHAT IS KEPT is what was sent and released at the ledger, in any run, if it is kept at all. A mark that was seen is recorded as debited if and
+-- only if its debit counts at the ledger.
 pub record Knows (k : Known) (H : Ledger) : Type 0 where
   pub sent : IsTrue k.is_kept → (bytes : List ℕ) → Has bytes k.sent ↔ IsSent bytes H
   pub released : IsTrue k.is_kept → (mark : List ℕ) → Has mark k.released ↔ IsReleased mark H

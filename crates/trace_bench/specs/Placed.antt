@@ -6,8 +6,7 @@ use Rattle.psd_state.specs.State.{State}
 use Rattle.centre_ledger.specs.declared.rows.Row.{Row}
 use Rattle.bench_abstraction.specs.declared.calls.DeviceCall.{DeviceCall}
 use Rattle.bench_abstraction.specs.Comparing.{compare}
-use Rattle.trace_nodes.specs.declared.giving.GaveOut.{GaveOut}
-use Rattle.trace_nodes.specs.declared.traced.Traced.{Traced}
+use Rattle.trace_nodes.specs.declared.{giving.GaveOut.GaveOut, traced.Traced.Traced}
 use Rattle.trace_device.specs.declared.record.DeviceRecord.{DeviceRecord}
 use Rattle.trace_device.specs.Records.{view_of}
 use Rattle.trace_device.specs.Verdicts.{IsByLedger}
@@ -15,7 +14,8 @@ use Rattle.trace_centre.specs.declared.record.CentreRecord.{CentreRecord}
 use Rattle.trace_centre.specs.Cells as centre
 
 -- the line was judged of device d, which is the one in this place
-pub record DeviceJudged (d : ℕ) (today : ℤ) (asked : Asked DeviceCall) (line : List ℕ) (old new : List (Traced DeviceRecord State)) (result : Result GaveOut Reply) : Type 0 where
+pub record DeviceJudged (d : ℕ) (today : ℤ) (asked : Asked DeviceCall) (line : List ℕ) (old new : List (Traced DeviceRecord State))
+    (result : Result GaveOut Reply) : Type 0 where
   pub place : ℕ
   pub is_device : d ≡ place + 1
   pub before : Traced DeviceRecord State
@@ -26,4 +26,5 @@ pub record DeviceJudged (d : ℕ) (today : ℤ) (asked : Asked DeviceCall) (line
 
 -- the reply is what device d, which is the one in its place, and the centre show
 abbrev pub ComparesInPlace : ℕ → List (Traced DeviceRecord State) → Traced CentreRecord Row → Reply → Type 0
-ComparesInPlace d devices c reply = (i : ℕ) (s : Traced DeviceRecord State) → d ≡ i + 1 → slice_get devices i ≡ Some s → reply ≡ compare d (view_of s) (centre.view_of c)
+ComparesInPlace d devices c reply = (i : ℕ) (s : Traced DeviceRecord State) → d ≡ i + 1 → slice_get devices i ≡ Some s
+    → reply ≡ compare d (view_of s) (centre.view_of c)

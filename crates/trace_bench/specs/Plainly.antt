@@ -2,11 +2,8 @@
 use Rattle.std.specs.Prelude.{◌≡◌, ◌≢◌, List, ℕ, Some, None, Option, Result, Ok, Err}
 use Rattle.bench_base.specs.declared.events.Reply.{Reply}
 use Rattle.script_text.specs.Texts.{text_of, IsWholeReply}
-use Rattle.trace_nodes.specs.declared.giving.GaveOut.{GaveOut}
-use Rattle.trace_nodes.specs.declared.printing.PrintOutcome.{PrintOutcome}
-use Rattle.trace_bench.specs.declared.judging.Heard.{Heard}
-use Rattle.trace_bench.specs.declared.judging.Finding.{Finding}
-use Rattle.trace_bench.specs.declared.judging.Finding.TheVariants.{Wrong, Memory}
+use Rattle.trace_nodes.specs.declared.{giving.GaveOut.GaveOut, printing.PrintOutcome.PrintOutcome}
+use Rattle.trace_bench.specs.declared.{judging.Heard.Heard, judging.Finding.Finding, judging.Finding.TheVariants.Wrong, judging.Finding.TheVariants.Memory}
 use Rattle.trace_seen.specs.Marks.{Ticks}
 use Rattle.trace_bench.specs.Debits.{IsLastOf}
 use Rattle.trace_bench.specs.Known.{Learns}
@@ -43,7 +40,8 @@ abbrev pub heard_of_rates : Result ℕ Finding → Result Heard Finding
 heard_of_rates (Ok taken) = Ok (record { sent = None; released = None; taken = taken; device = None })
 heard_of_rates (Err finding) = Err finding
 
--- the message was sent, it and the mark are kept, and the mark of the device's last debit is told as debited, if it was seen; or there was no memory for it
+-- the message was sent, it and the mark are kept, and the mark of the device's last debit is recorded as debited, if it was seen; or there was no
+-- memory for it
 abbrev pub SendsHeard : Heard → Audit → Audit → Result ℕ Finding → Type 0
 SendsHeard heard old new (Ok taken) =
     (new ≡ record (sending heard.sent old) { known = new.known }) × Learns heard.sent heard.released old.known new.known × (taken ≡ heard.taken)

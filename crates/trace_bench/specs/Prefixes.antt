@@ -1,9 +1,6 @@
 -- Which replies begin with bytes, of those that may come for an event.
 use Rattle.std.specs.Prelude.{◌≡◌, ℕ, ℤ, ◌<◌, List, [], Bool, true, false, ◌⊎◌, Option, Some, None}
-use Rattle.bench_base.specs.declared.words.Node.{Node}
-use Rattle.bench_base.specs.declared.words.Node.TheVariants.{Device, Centre, Host, Verifier}
-use Rattle.bench_base.specs.declared.events.Event.{Event}
-use Rattle.bench_base.specs.declared.events.Reply.{Reply}
+use Rattle.bench_base.specs.declared.{words.Node.Node, words.Node.TheVariants.Device, words.Node.TheVariants.Centre, words.Node.TheVariants.Host, words.Node.TheVariants.Verifier, events.Event.Event, events.Reply.Reply}
 use Rattle.bench_base.specs.declared.events.Reply.TheVariants as r
 use Rattle.bench_base.specs.Ranges.{IsNode}
 use Rattle.bench_base.specs.Replies.{Did}
@@ -25,7 +22,7 @@ number_of Verifier = 11
 
 -- == beside the answer ==
 
--- a reply that has P; or none has it
+-- a reply that has P; or no reply has P
 abbrev pub IsFound : (Reply → Type 0) → Option Reply → Type 0
 IsFound P (Some reply) = P reply
 IsFound P None = (reply : Reply) → P reply → ⊥
@@ -78,21 +75,23 @@ module _ (τ : Tariff) (H : Ledger) (e : Event) (left : List ℕ) where
   abbrev pub MayLose : List ℕ → Node → Type 0
   MayLose prefix m = IsNode m × MayGet τ H e left prefix (r.Power m)
 
-  -- the event was told as one in which the node lost its power; or it may not be told so, and the auditor has what it had
+  -- the event was recorded as one in which the node lost its power; or it can't be one, and the auditor has what it had
   abbrev pub LosesAt : Node → Audit → Bool → Type 0
   LosesAt m a true = MayGet τ H e left [] (r.Power m) × Sees a (ledger_with τ H e left [] (r.Power m))
   LosesAt m a false = (MayGet τ H e left [] (r.Power m) → ⊥) × Sees a H
 
-  -- the event was told as one in which the node, a failure of which begins so, lost its power; or none does or it may not be told so, and the auditor has what it had
+  -- the event was recorded as one in which the node lost its power, and a failure of the node begins so; or no such record is possible, and the
+  -- auditor has what it had
   abbrev pub LosesThere : List ℕ → Node → Audit → Bool → Type 0
   LosesThere prefix m a true = MayLose prefix m × BeginsFailure prefix m × Sees a (ledger_with τ H e left prefix (r.Power m))
   LosesThere prefix m a false = (MayLose prefix m → BeginsFailure prefix m → ⊥) × Sees a H
 
-  -- no node whose number is below this may lose its power, where its failure begins so
+  -- no node with a number below this may lose its power, if its failure begins so
   abbrev pub NoneBelow : ℕ → List ℕ → Type 0
   NoneBelow number prefix = (m : Node) → number_of m < number → MayLose prefix m → BeginsFailure prefix m → ⊥
 
-  -- the event was told as one in which some node, a failure of which begins so, lost its power; or there is none that may be told so, and the auditor has what it had
+  -- the event was recorded as one in which some node lost its power, and a failure of that node begins so; or no such record is possible, and the
+  -- auditor has what it had
   abbrev pub Loses : List ℕ → Audit → Bool → Type 0
   Loses prefix a true = (m : Node) × MayLose prefix m × BeginsFailure prefix m × Sees a (ledger_with τ H e left prefix (r.Power m))
   Loses prefix a false = ((m : Node) → MayLose prefix m → BeginsFailure prefix m → ⊥) × Sees a H

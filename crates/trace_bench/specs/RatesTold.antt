@@ -1,4 +1,4 @@
--- What a line of the report tells of a `rates` on a day, by the text that it takes.
+-- What a line of the report shows about a `rates` on a day, by the text that it takes.
 use Rattle.std.specs.Prelude.{◌≡◌, ◌≢◌, ℕ, List, length, take, Option, Some, None, Result, Ok, Err}
 use Rattle.bench_base.specs.declared.events.Reply.{Reply}
 use Rattle.bench_base.specs.declared.events.Reply.TheVariants as r
@@ -8,8 +8,7 @@ use Rattle.host_rates.specs.Tables.{RateTable}
 use Rattle.host_rates.specs.Answers.{answer}
 use Rattle.script_text.specs.Texts.{text_of, IsWholeReply}
 use Rattle.bench.specs.Outside.{rates_turn, rates_after}
-use Rattle.trace_bench.specs.declared.judging.Finding.{Finding}
-use Rattle.trace_bench.specs.declared.judging.Finding.TheVariants.{Wrong, Memory}
+use Rattle.trace_bench.specs.declared.{judging.Finding.Finding, judging.Finding.TheVariants.Wrong, judging.Finding.TheVariants.Memory}
 
 -- so much is read of them
 abbrev pub text_of_rates : List ℕ → List ℕ
@@ -30,7 +29,8 @@ due_of text = (rates_turn text (answer text)).reply
 -- the source failed; or the text was read, and is answered so
 pub data ReadsSo (left line : List ℕ) (old new : Option RateTable) (taken : ℕ) : Type 0 where
   failed : text_of r.RatesFault ≡ line → taken ≡ 0 → new ≡ old → ReadsSo left line old new taken
-  read : text_of (due_of (text_of_rates left)) ≡ line → IsWholeReply (due_of (text_of_rates left)) → taken ≡ length (text_of_rates left) → new ≡ rates_after old (answer (text_of_rates left)) → ReadsSo left line old new taken
+  read : text_of (due_of (text_of_rates left)) ≡ line → IsWholeReply (due_of (text_of_rates left)) → taken ≡ length (text_of_rates left)
+      → new ≡ rates_after old (answer (text_of_rates left)) → ReadsSo left line old new taken
 
 -- the line is that of neither
 pub record ReadsNever (left line : List ℕ) (old new : Option RateTable) (due : Reply) : Type 0 where

@@ -20,12 +20,11 @@ use Rattle.trace_host.specs.Cells as host
 use Rattle.trace_verifier.specs.declared.record.ScanRecord.{ScanRecord}
 use Rattle.trace_verifier.specs.Cells as verifier
 use Rattle.trace_views.specs.Verdicts.{listed}
-use Rattle.trace_bench.specs.declared.auditor.Auditor.{Auditor}
-use Rattle.trace_bench.specs.declared.known.Known.{Known}
+use Rattle.trace_bench.specs.declared.{auditor.Auditor.Auditor, known.Known.Known}
 use Rattle.trace_bench.specs.Known.{Kept, Knows, kept_of}
 
--- the day, the messages of the run, of which the first was sent first, the rates that were read last, the nodes by what was told of
--- them, of the devices number i is device i + 1, and what was sent and released in all runs
+-- The day, the messages of the run (the one sent first is first), and the rates that were read last. The nodes as the report
+-- describes them: number i of the devices is device i + 1. And what was sent and released in all runs.
 pub record Audit : Type 0 where
   pub day : Option ℤ
   pub messages : List (List ℕ)
@@ -66,12 +65,14 @@ pub record IsReady (a : Audit) : Type 0 where
 -- what the auditor has of the run and of each node is what the ledger shows: the day, the messages and the rates, and the nodes
 pub record SeesRun (a : Audit) (H : Ledger) : Type 0 where
   pub day : HasDay a.day a.messages a.rates H
-  pub devices : (i : ℕ) (s : Traced DeviceRecord State) → slice_get a.devices i ≡ Some s → device.view_of s ≡ view_in (Device (i + 1)) (bench_kinds.devices.seen (i + 1)) H
+  pub devices : (i : ℕ) (s : Traced DeviceRecord State) → slice_get a.devices i ≡ Some s
+      → device.view_of s ≡ view_in (Device (i + 1)) (bench_kinds.devices.seen (i + 1)) H
   pub centre : centre.view_of a.centre ≡ view_in Centre (bench_kinds.centre.seen tt) H
   pub host : host.view_of a.host ≡ view_in Host (bench_kinds.host.seen tt) H
   pub verifier : verifier.view_of a.verifier ≡ view_in Verifier (bench_kinds.verifier.seen tt) H
 
--- WHAT THE AUDITOR HAS is what the ledger shows: of the run, of each node, of what was sent and released in all runs, if it keeps that, and of the marks that were seen
+-- WHAT THE AUDITOR HAS is what the ledger shows: of the run, of each node, of what was sent and released in all runs, if it keeps that, and
+-- of the marks that were seen
 pub record Sees (a : Audit) (H : Ledger) : Type 0 where
   pub run : SeesRun a H
   pub known : Knows a.known H

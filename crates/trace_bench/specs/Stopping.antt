@@ -1,8 +1,6 @@
--- Where a report ends before the line end of the answer to an event: what may stand there of one, and what the auditor has behind it.
+-- A report that ends before the line end of the answer to an event: which prefix of an answer it may end with, and what the auditor has after it.
 use Rattle.std.specs.Prelude.{◌≡◌, ◌⊎◌, ℕ, ◌+◌, List, [], ◌++◌, Option, Some, None, Result, Ok, Err}
-use Rattle.bench_base.specs.declared.words.Node.{Node}
-use Rattle.bench_base.specs.declared.events.Event.{Event}
-use Rattle.bench_base.specs.declared.events.Reply.{Reply}
+use Rattle.bench_base.specs.declared.{words.Node.Node, events.Event.Event, events.Reply.Reply}
 use Rattle.bench_base.specs.declared.events.Reply.TheVariants as r
 use Rattle.bench_base.specs.Replies.{Did}
 use Rattle.bench_base.specs.Rules.{todays_rules}
@@ -10,18 +8,17 @@ use Rattle.bench_base.specs.Ledger.{Ledger, day_in}
 use Rattle.ledger_moves.specs.Tariffs.{Tariff}
 use Rattle.ledger_moves.specs.Moves.{answer}
 use Rattle.script_text.specs.Texts.{text_of, IsWholeReply}
-use Rattle.trace_bench.specs.declared.judging.Finding.{Finding}
-use Rattle.trace_bench.specs.declared.judging.Finding.TheVariants.{Wrong, Memory}
+use Rattle.trace_bench.specs.declared.{judging.Finding.Finding, judging.Finding.TheVariants.Wrong, judging.Finding.TheVariants.Memory}
 use Rattle.trace_bench.specs.Judging.{MayGet, ledger_with, taken_by}
 use Rattle.trace_bench.specs.Seeing.{Audit, Sees}
 
--- they are none, the first or all of the bytes of the text
+-- they are a prefix of the bytes of the text: no byte, the first ones or all
 abbrev pub IsPrefixOf : List ℕ → List ℕ → Type 0
 IsPrefixOf prefix text = (more : List ℕ) × (text ≡ prefix ++ more)
 
 -- At ledger H, where these rates are left, the report ends with these bytes of the line for this event.
 module _ (τ : Tariff) (H : Ledger) (e : Event) (left prefix : List ℕ) where
-  -- the event may get this reply, whose numbers are in range, and whose line begins so
+  -- the event may get this reply, its numbers are in range, and its line begins so
   pub record MayBegin (reply : Reply) : Type 0 where
     pub moves : MayGet τ H e left prefix reply
     pub whole : IsWholeReply reply
@@ -35,15 +32,15 @@ module _ (τ : Tariff) (H : Ledger) (e : Event) (left prefix : List ℕ) where
   abbrev pub MayComeOn : Type 0
   MayComeOn = (m : Node) × (commits : ℕ) × MayBegin (r.Up m commits) × MayBegin (r.Up m (commits + 1))
 
-  -- WHETHER THE EVENT WAS DONE IS IN DOUBT: nothing of the answer stands there; or what stands there may be a failure of a node, or either of two `up`s.
+  -- WHETHER THE EVENT WAS DONE IS IN DOUBT: the report has nothing of the answer; or what it has may be a failure of a node, or either of two `up`s.
   pub data IsInDoubt : Type 0 where
     unanswered : prefix ≡ [] → IsInDoubt
     failed : (m : Node) → MayFail m → IsInDoubt
     either_up : MayComeOn → IsInDoubt
 
-  -- WHAT THE AUDITOR HAS BEHIND THE STOP is what the ledger shows in which the event was done with a reply that begins so, and so what it sent and released.
-  -- Where that is in doubt, and a node may have failed, it is that in which the node lost its power: it is off, and its commit is open until it comes on. Where none
-  -- may have, the event commits nothing, and the auditor has what it had.
+  -- WHAT THE AUDITOR HAS AFTER THE STOP is what the ledger shows if the event was done with a reply that begins so, with what it sent and released.
+  -- If that is in doubt, and a node may have failed, it is the ledger in which the node lost its power: it is off, and its commit is open until it
+  -- comes on. If no node may have failed, the event commits nothing, and the auditor has what it had.
   pub data Leaves (a : Audit) : Type 0 where
     done : (reply : Reply) → MayBegin reply → (IsInDoubt → ⊥) → Sees a (ledger_with τ H e left prefix reply) → Leaves a
     torn : (m : Node) → MayFail m → Sees a (ledger_with τ H e left prefix (r.Power m)) → Leaves a

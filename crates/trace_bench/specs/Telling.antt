@@ -1,25 +1,16 @@
--- What an auditor tells of each node: what is answered to `status`, `balance` and `reconcile`, what the centre keeps, how many commits count, and where
--- one is open.
+-- What an auditor reports of each node: what is answered to `status`, `balance` and `reconcile`, what the centre keeps, how many commits count, and
+-- where one is open.
 use Rattle.std.specs.Prelude.{◌≡◌, ℕ, ℤ, ◌+◌, [], Bool, true, Option, Some, None, is_some, option_map, slice_get}
-use Rattle.bench_base.specs.declared.words.Node.{Node}
-use Rattle.bench_base.specs.declared.words.Node.TheVariants.{Device, Centre, Host, Verifier}
+use Rattle.bench_base.specs.declared.{words.Node.Node, words.Node.TheVariants.Device, words.Node.TheVariants.Centre, words.Node.TheVariants.Host, words.Node.TheVariants.Verifier, events.DevView.DevView, events.Reply.Reply, refusals.DevRefusal.TheVariants.Blank, refusals.CentreRefusal.TheVariants.UnknownCustomer, events.Event.Event}
 use Rattle.bench_base.specs.declared.events.Event.TheVariants as ev
-use Rattle.bench_base.specs.declared.events.DevView.{DevView}
-use Rattle.bench_base.specs.declared.events.Reply.{Reply}
 use Rattle.bench_base.specs.declared.events.Reply.TheVariants as r
-use Rattle.bench_base.specs.declared.refusals.DevRefusal.TheVariants.{Blank}
-use Rattle.bench_base.specs.declared.refusals.CentreRefusal.TheVariants.{UnknownCustomer}
-use Rattle.bench_base.specs.declared.events.Event.{Event}
 use Rattle.bench_base.specs.Rules.{todays_rules, editions}
 use Rattle.bench_base.specs.Ledger.{Ledger, counted, day_in, is_on}
-use Rattle.node_acts.specs.declared.act.Act.{Act}
-use Rattle.node_acts.specs.declared.act.Act.TheVariants.{Refuse, Tell, Commits}
-use Rattle.node_acts.specs.declared.said.Said.{Said}
+use Rattle.node_acts.specs.declared.{act.Act.Act, act.Act.TheVariants.Refuse, act.Act.TheVariants.Tell, act.Act.TheVariants.Commits, said.Said.Said}
 use Rattle.psd_state.specs.State.{State}
 use Rattle.psd_state.specs.Answers.{status_of}
 use Rattle.psd_state.specs.Seen as device
-use Rattle.centre_ledger.specs.declared.rows.DeviceRow.{DeviceRow}
-use Rattle.centre_ledger.specs.declared.rows.CustomerRow.{CustomerRow}
+use Rattle.centre_ledger.specs.declared.{rows.DeviceRow.DeviceRow, rows.CustomerRow.CustomerRow}
 use Rattle.centre_ledger.specs.Acts.{standing_act}
 use Rattle.centre_ledger.specs.Books.{device_at, customer_at, left_in}
 use Rattle.centre_ledger.specs.Seen as centre
@@ -28,8 +19,7 @@ use Rattle.verifier.specs.Seen as verifier
 use Rattle.ledger_moves.specs.Tariffs.{Tariff}
 use Rattle.ledger_moves.specs.Moves.{answer}
 use Rattle.ledger_moves.specs.Histories.{History}
-use Rattle.bench_abstraction.specs.declared.calls.DeviceCall.TheVariants.{Status}
-use Rattle.bench_abstraction.specs.declared.calls.CentreCall.TheVariants.{Balance}
+use Rattle.bench_abstraction.specs.declared.{calls.DeviceCall.TheVariants.Status, calls.CentreCall.TheVariants.Balance}
 use Rattle.bench_abstraction.specs.Devices.{device_act}
 use Rattle.bench_abstraction.specs.Centre.{centre_act}
 use Rattle.bench_abstraction.specs.Comparing.{compared}
@@ -44,17 +34,17 @@ use Rattle.trace_bench.specs.Seeing.{Audit, Sees}
 
 -- == the words of the nodes ==
 
--- the reply of an act that is done; there is none where it refuses
+-- the reply of an act that is done; None if it refuses
 abbrev pub done_by : {X : Type 0} → Act X Reply Said → Option Reply
 done_by (Refuse x) = None
 done_by (Tell said) = Some said.reply
 done_by (Commits c x said) = Some said.reply
 
--- what device d answers to `status` on a day where it is on, by its record; there is none where it was not made
+-- what device d answers to `status` on a day if it is on, by its record; None if it was not made
 abbrev pub status_by : ℕ → ℤ → device.Seen → Option Reply
 status_by d today s = done_by (device_act d today Status s.state)
 
--- what the centre answers to `balance` of customer w where it is on, by its rows; there is none where w is not open
+-- what the centre answers to `balance` of customer w if it is on, by its rows; None if w is not open
 abbrev pub balance_by : ℕ → centre.Seen → Option Reply
 balance_by w s = done_by (centre_act (Balance (record { customer = w })) (centre.books_in s))
 
@@ -127,15 +117,15 @@ abbrev pub done_or : Reply → Option Reply → Reply
 done_or refusal None = refusal
 done_or refusal (Some reply) = reply
 
--- at each history that the auditor has, whose day this is, and at which the node is on, the event is answered so
+-- at each history that the auditor has, if this is its day and the node is on, the event is answered so
 abbrev pub IsAnswered : Audit → ℤ → Node → Event → Reply → Type 0
 IsAnswered a today m e reply = (τ : Tariff) (H : Ledger) → History τ editions H → Sees a H
     → day_in H ≡ Some today → is_on m H ≡ true → answer τ todays_rules H e [] ≡ reply
 
--- so is `status` of device d, and a device that was not made refuses
+-- `status` of device d is answered so, and a device that was not made refuses
 abbrev pub SaysStatus : Audit → ℕ → ℤ → Option Reply → Type 0
 SaysStatus a d today told = IsAnswered a today (Device d) (ev.Status d) (done_or (r.DevRefused d Blank) told)
 
--- so is `balance` of customer w on each day, and the centre refuses of one that is not open
+-- `balance` of customer w is answered so on each day, and the centre refuses if the customer is not open
 abbrev pub SaysBalance : Audit → ℕ → Option Reply → Type 0
 SaysBalance a w told = (today : ℤ) → IsAnswered a today Centre (ev.Balance w) (done_or (r.CentreRefused (UnknownCustomer w)) told)

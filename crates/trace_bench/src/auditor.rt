@@ -1,4 +1,5 @@
-//! The auditor: each node by what was told of it, with the day, the rates and the messages of the run, and what was sent and released in all runs.
+//! The auditor: each node as the report describes it, with the day, the rates and the messages of the run, and what was sent and released in all
+//! runs.
 ghost use Rattle.std.specs.Prelude.{◌≡◌, ◌<◌, length, IfOk};
 ghost use Rattle.trace_bench.specs.Beginning.{AreBlank, AreShut, ShutsAt, IsBlankDevice, IsBlankCentre, IsBlankHost, IsBlankVerifier};
 
@@ -17,7 +18,7 @@ use trace_nodes::Traced;
 use trace_verifier::ScanRecord;
 use verifier::Change;
 
-/// What was told of a bench: of eight devices, the centre, the host and the verifier, of the run, and of all messages and marks.
+/// What is known of a bench from its reports: of eight devices, the centre, the host and the verifier, of the run, and of all messages and marks.
 #[derive(Drop)]
 pub struct Auditor {
     pub(crate) devices: Vec<Traced<DeviceRecord, DevRec>>,
@@ -117,8 +118,8 @@ impl Auditor {
     ghost use Rattle.bench_base.specs.declared.ledger.Entry.TheVariants.{Begin};
     ghost use Rattle.trace_bench.specs.Seeing.{IsReady, Sees, audit_of, keeps};
 
-    /// An auditor of blank nodes, of which nothing was told: what the empty ledger shows. What is sent and released is kept, or not: what is never kept takes no memory.
-    /// AllocError is lack of memory.
+    /// An auditor of blank nodes, about which nothing is known: what the empty ledger shows. What is sent and released is kept, or not: what is
+    /// never kept takes no memory. AllocError is lack of memory.
     pub fn new(alloc: Global, is_kept: bool) -> Result<Auditor, AllocError>
         ensures ready { IfOk result (λ a. IsReady (audit_of a)) }
         ensures kept { IfOk result (λ a. keeps (audit_of a) ≡ record { all = is_kept; seen = [] }) }

@@ -1,4 +1,4 @@
-//! Whether an event brings forged bytes from outside, and what makes that quick.
+//! Whether an event contains forged bytes from outside, and what makes that quick.
 ghost use Rattle.std.specs.Prelude.{◌≡◌, ◌≢◌, Some, IfSome, IfNone, IsTrue, IsFalse, MatchBool, OnOk, option_map};
 ghost use Rattle.bench_base.specs.Events.{brought_by};
 ghost use Rattle.bench_base.specs.declared.questions.Brought.TheVariants.{Nothing};
@@ -62,7 +62,8 @@ fn is_forged_by(accounts: &Accounts, device: u32, bytes: &[u8], known: &ByteSet<
 // Whether bytes that are given to this device are a forged Reply.
 fn is_forged_reply(auditor: &Auditor, device: DevNo, bytes: &[u8]) -> bool
     requires ready { IsReady (audit_of auditor.now) }
-    ensures { OfDevice device (audit_of auditor.now) (λ s. result ≡ forging.forged_reply (seen_of s.record).state device bytes.now (audit_of auditor.now).known.sent (read bytes.now)) }
+    ensures { OfDevice device (audit_of auditor.now)
+        (λ s. result ≡ forging.forged_reply (seen_of s.record).state device bytes.now (audit_of auditor.now).known.sent (read bytes.now)) }
 {
     let traced = traced_of(&auditor.devices, device);
     match &read_message(bytes) {
@@ -131,8 +132,9 @@ fn gives_forged(auditor: &Auditor, node: &Node, bytes: &[u8]) -> bool
     }
 }
 
-/// Puts what was sent and released since it was last asked for to where each is found by its hash, if `is_forged` asks for it of this event. What the auditor has stays
-/// the same, also where there is no memory; and so does what `is_forged` answers, which walks whatever was not put there.
+/// Puts what was sent and released since it was last asked for to where each is found by its hash, if `is_forged` asks for it of this
+/// event. What the auditor has stays the same, also where there is no memory; and so does what `is_forged` answers, which walks whatever
+/// was not put there.
 pub fn index(alloc: Global, auditor: &mut Auditor, event: &Event) -> Result<(), AllocError>
     requires ready { IsReady (audit_of auditor.old) }
     ensures ready { IsReady (audit_of auditor.new) }
@@ -150,7 +152,7 @@ pub fn index(alloc: Global, auditor: &mut Auditor, event: &Event) -> Result<(), 
     }
 }
 
-// Whether the event brings something forged, by an auditor that keeps what was sent and released.
+// Whether the event contains forged bytes, by an auditor that keeps what was sent and released.
 fn brings_forged(auditor: &Auditor, event: &Event) -> bool
     requires ready { IsReady (audit_of auditor.now) }
     requires kept { IsTrue (keeps (audit_of auditor.now)).all }
@@ -171,7 +173,7 @@ fn brings_forged(auditor: &Auditor, event: &Event) -> bool
     }
 }
 
-// Whether the event brings no bytes.
+// Whether the event contains no bytes.
 fn brings_nothing(event: &Event) -> bool
     ensures { MatchBool result (brought_by event.now ≡ Nothing) (brought_by event.now ≢ Nothing) }
 {
@@ -182,9 +184,9 @@ fn brings_nothing(event: &Event) -> bool
     }
 }
 
-/// Whether the event brings something forged: bytes of a `give` or of a `scan hex` that have the right code of whoever they name and that
-/// no node sent, or released, in any run before; or a mark for the host, which has no key, that was not released. None only if it brings bytes and the auditor does
-/// not keep what was sent and released.
+/// Whether the event contains forged bytes. Bytes of a `give` or of a `scan hex` are forged if they have the right MAC of whoever they name, and no
+/// node sent or released them in any run before. A mark for the host, which has no key, is forged if it was not released. None only if the event
+/// contains bytes and the auditor does not keep what was sent and released.
 pub fn is_forged(auditor: &Auditor, event: &Event) -> Option<bool>
     requires ready { IsReady (audit_of auditor.now) }
     ensures unkept { IfNone result (IsFalse (keeps (audit_of auditor.now)).all) }

@@ -33,7 +33,7 @@ use trace_host::judge_host;
 use trace_nodes::{GaveOut, PrintOutcome, Traced, is_told};
 use trace_verifier::judge_scans;
 
-/// What is found where a line of the report can't be told of its event.
+/// What is found if a line of the report is not that of a reply that its event may get.
 #[derive(Clone, Copy)]
 pub enum Finding {
     /// No reply that the event may get has the line; this was the answer.
@@ -42,7 +42,8 @@ pub enum Finding {
     Memory,
 }
 
-/// What is heard of an event by its line: the message that it sent, the mark that it released, how much of the rates it took, in bytes, and the device that it was for.
+/// What is heard of an event by its line: the message that it sent, the mark that it released, how much of the rates it took, in bytes, and
+/// the device that it was for.
 #[derive(Clone, Copy)]
 pub struct Heard {
     pub sent: Option<Note>,
@@ -239,7 +240,8 @@ pub(crate) fn hear(
     }
 }
 
-// Sends the message that was heard of, if there is one, and keeps it and the mark, if that is kept. The mark of the device's last debit is told as debited, if it was seen.
+// Sends the message that was heard of, if there is one, and keeps it and the mark, if that is kept. The mark of the device's last debit is recorded
+// as debited, if it was seen.
 pub(crate) fn send(auditor: &mut Auditor, heard: Heard) -> Result<usize, Finding>
     requires ready { IsReady (audit_of auditor.old) }
     ensures ready { IsReady (audit_of auditor.new) }

@@ -1,4 +1,5 @@
-//! What was sent and released in all runs: kept as it comes, and found by its bytes once it is asked for. And which of the marks that were seen on mail were debited.
+//! What was sent and released in all runs: kept as it comes, and found by its bytes once it is asked for. And which of the marks that were
+//! seen on mail were debited.
 ghost use Rattle.std.specs.Prelude.{◌≡◌, ◌↔◌, ◌||◌, ℕ, List, [], IsTrue, OnOk};
 ghost use Rattle.trace_bench.specs.Known as known;
 ghost use Rattle.trace_bench.specs.Known.{Learns, Puts, HasSame, IsAllFound, IsBlank, has_by, is_among, kept_of};
@@ -74,7 +75,7 @@ impl<K: AsBytes> ByteSet<K> {
         }
     }
 
-    // By the hash, where nothing is listed.
+    // The search is by the hash, if nothing is listed.
     pub(crate) fn has(&self, bytes: &[u8]) -> bool
         ensures { result ≡ has_by K.bytes_of bytes.now self.now }
     {

@@ -1,4 +1,4 @@
-//! An auditor of a whole bench: whether the line of the report can be the reply to an event of a script, by what was told before.
+//! An auditor of a whole bench: whether the line of the report can be the reply to an event of a script, by what was judged before.
 #![tactic(auto)]
 
 pub mod auditor;

@@ -1,4 +1,4 @@
-//! Where a report ends before the line end of an answer: whether what stands there of it can be the prefix of a reply, and how the event is told then.
+//! A report that ends before the line end of an answer: whether what it ends with can be the prefix of a reply, and how the event is then recorded.
 ghost use Rattle.std.specs.Prelude.{◌≡◌, ◌↔◌, ◌+◌, ◌<◌, ◌≤◌, ℕ, List, IsTrue, IsOk, IsSome, MatchBool, IfOk, OnOk, Ok, length, true, false};
 ghost use Rattle.bench_base.specs.declared.events.Reply.{Reply};
 ghost use Rattle.bench_base.specs.Ledger.{Ledger};
@@ -90,7 +90,8 @@ fn rates_fault(event: &Event, day: Option<DayNo>, prefix: &[u8]) -> Option<Reply
 fn begun(auditor: &Auditor, event: &Event, due: &Reply, prefix: &[u8]) -> Option<Reply>
     requires whole { IsWholeEvent event.now }
     requires ready { IsReady (audit_of auditor.now) }
-    ensures exact { (τ : Tariff) (H : Ledger) (left : List ℕ) → Sees (audit_of auditor.now) H → IsDue τ H event.now left due.now → Comes τ H event.now left prefix.now result }
+    ensures exact { (τ : Tariff) (H : Ledger) (left : List ℕ) → Sees (audit_of auditor.now) H → IsDue τ H event.now left due.now
+        → Comes τ H event.now left prefix.now result }
     ensures short { IsSome result → length prefix.now ≤ 256 }
 {
     if begins(due, prefix) {
@@ -108,12 +109,14 @@ fn begun(auditor: &Auditor, event: &Event, due: &Reply, prefix: &[u8]) -> Option
 // Whether both `up`s of the node begin so, where this is the answer: it may have come on with its open commit, or without.
 fn begins_both_ups(auditor: &Auditor, due: &Reply, prefix: &[u8]) -> bool
     requires ready { IsReady (audit_of auditor.now) }
-    ensures exact { (H : Ledger) → Sees (audit_of auditor.now) H → MatchBool result (BeginsBothUps due.now H prefix.now) (BeginsBothUps due.now H prefix.now → ⊥) }
+    ensures exact { (H : Ledger) → Sees (audit_of auditor.now) H
+        → MatchBool result (BeginsBothUps due.now H prefix.now) (BeginsBothUps due.now H prefix.now → ⊥) }
 {
     begins(due, prefix) && other_up(auditor, due, prefix).is_some()
 }
 
-/// The answer that is due to the event, which the auditor leaves as it was: no reply has a line end in its line. AllocError is lack of memory, for rates or a message.
+/// The answer that is due to the event, which the auditor leaves as it was: no reply has a line end in its line. AllocError is lack of
+/// memory, for rates or a message.
 pub fn due_to(
     alloc: Global,
     auditor: &mut Auditor,
@@ -135,7 +138,7 @@ pub fn due_to(
     }
 }
 
-// Tells the event as one in which this node lost its power, if it may be told so. True if and only if it may.
+// Records the event as one in which this node lost its power, if it may be one. True if and only if it may.
 fn lose_power_at(
     alloc: Global,
     auditor: &mut Auditor,
@@ -192,7 +195,8 @@ fn begins_failure(node: &Node, prefix: &[u8]) -> bool
     begins(&Reply::Power(*node), prefix) || begins(&Reply::Fault(*node), prefix)
 }
 
-// Tells the event as one in which this node lost its power, if a failure of the node begins so, and it may be told so. True if and only if both hold.
+// Records the event as one in which this node lost its power, if a failure of the node begins so, and the event may be one. True if and only if both
+// hold.
 fn lose_power_there(
     alloc: Global,
     auditor: &mut Auditor,
@@ -209,7 +213,8 @@ fn lose_power_there(
     ensures kept { keeps (audit_of auditor.new) ≡ keeps (audit_of auditor.old) }
     ensures few { length (audit_of auditor.new).messages ≤ length (audit_of auditor.old).messages + 1 }
     ensures unsent { IfOk result (λ b. b ≡ false → (audit_of auditor.new).messages ≡ (audit_of auditor.old).messages) }
-    ensures lost { AtEach (audit_of auditor.old) event.now (λ τ H. IfOk result (λ b. LosesThere τ H event.now left.now prefix.now node.now (audit_of auditor.new) b)) }
+    ensures lost { AtEach (audit_of auditor.old) event.now
+        (λ τ H. IfOk result (λ b. LosesThere τ H event.now left.now prefix.now node.now (audit_of auditor.new) b)) }
     ensures short { result ≡ Ok true → length prefix.now ≤ 256 }
 {
     if begins_failure(node, prefix) {
@@ -219,7 +224,8 @@ fn lose_power_there(
     }
 }
 
-// Tells the event as one in which a node lost its power: the first of all a failure of which begins so, and that may be told so. True if and only if there is one.
+// Records the event as one in which a node lost its power: the first node with a failure that begins so, if the event may be one in which that node
+// lost power. True if and only if there is one.
 fn lose_power(
     alloc: Global,
     auditor: &mut Auditor,
@@ -260,7 +266,8 @@ fn tell_done(
     ensures ready { IsReady (audit_of auditor.new) }
     ensures kept { keeps (audit_of auditor.new) ≡ keeps (audit_of auditor.old) }
     ensures few { length (audit_of auditor.new).messages ≤ length (audit_of auditor.old).messages + 1 }
-    ensures done { AtEach (audit_of auditor.old) event.now (λ τ H. OnOk result ((x : Reply) × IsTold τ H event.now left.now (text_of reply.now) (audit_of auditor.new) x)) }
+    ensures done { AtEach (audit_of auditor.old) event.now
+        (λ τ H. OnOk result ((x : Reply) × IsTold τ H event.now left.now (text_of reply.now) (audit_of auditor.new) x)) }
 {
     let mut line = Line::new();
     put_reply(&mut line, reply);
@@ -270,12 +277,12 @@ fn tell_done(
     }
 }
 
-/// Judges bytes that a report ends with, where the line of this event should stand: none, some or all of it, without its line end. `Ok` if and only if they are
-/// the prefix of the line of a reply that the event may get. A reply comes after its event, so the event was done, and is told with a reply that begins so: this one.
-/// None is where that is in doubt, since nothing stands there, or a failure of a node begins so, or either of its `up`s. The event is then told as one in which
-/// its node lost its power, where it may be told so: the next `up` says whether its commit counts. `Wrong`, with the answer that was due, if and only if they are the
-/// prefix of none; the auditor has what it had. More than 256 bytes are never the prefix of one, whatever the auditor has. `Memory` is lack of memory, for rates, a
-/// message or a mark.
+/// Judges the bytes that a report ends with in place of the line of this event: none, some or all of it, without its line end. `Ok` if and only if
+/// they are the prefix of the line of a reply that the event may get. A reply follows its event, so the event was done, and is recorded with a reply
+/// that begins so: this one. The result has None if that is in doubt: there are no bytes, or a failure of a node begins so, or either of its `up`s
+/// does. The event is then recorded as one in which its node lost its power, if it may be one: the next `up` says whether its commit counts.
+/// `Wrong`, with the answer that was due, if and only if they are not the prefix of the line of any reply that the event may get; the auditor has
+/// what it had. More than 256 bytes are never such a prefix, whatever the auditor has. `Memory` is lack of memory, for rates, a message or a mark.
 pub fn stop(
     alloc: Global,
     auditor: &mut Auditor,

@@ -1,4 +1,4 @@
-//! What an auditor tells of each node, by what it has behind the runs that were judged.
+//! What an auditor reports of each node, by what it has after the runs that were judged.
 ghost use Rattle.std.specs.Prelude.{◌≡◌, ◌-◌, ◌+◌, length, is_some, slice_get, option_map, Some};
 ghost use Rattle.std.specs.Option.{option_copied};
 ghost use Rattle.bench_base.specs.Ranges.{IsDevice};
@@ -11,8 +11,7 @@ ghost use Rattle.trace_device.specs.Records.{seen_of};
 ghost use Rattle.trace_centre.specs.Cells.{cells_of};
 ghost use Rattle.trace_host.specs.Cells as host_cells;
 ghost use Rattle.trace_bench.specs.Seeing.{IsReady, Sees, audit_of};
-ghost use Rattle.trace_bench.specs.Telling.{OfDevice, Counts, Opens, done_by, status_by, balance_by, shown_by, left_by, reconcile_by, device_row_by, customer_row_by};
-ghost use Rattle.trace_bench.specs.Telling.{device_in, centre_in, host_in, count_in, SaysStatus, SaysBalance};
+ghost use Rattle.trace_bench.specs.Telling.{OfDevice, Counts, Opens, done_by, status_by, balance_by, shown_by, left_by, reconcile_by, device_row_by, customer_row_by, device_in, centre_in, host_in, count_in, SaysStatus, SaysBalance};
 
 use crate::auditor::Auditor;
 use bench_abstraction::laws::nodes_follow;
@@ -64,7 +63,7 @@ pub(crate) fn traced_of(
 }
 
 impl Auditor {
-    /// The day of the run that was judged last. None where no day was told in it.
+    /// The day of the run that was judged last. None if that run has set no day.
     pub fn day(&self) -> Option<DayNo>
         ensures { result ≡ (audit_of self.now).day }
     {
@@ -121,7 +120,8 @@ impl Auditor {
     /// What `reconcile` answers of the device where it and the centre are on, in mills, by the commits that count.
     pub fn reconcile_of(&self, device: DevNo) -> Reply
         requires ready { IsReady (audit_of self.now) }
-        ensures by_record { OfDevice device (audit_of self.now) (λ s. result ≡ reconcile_by device (seen_of s.record) (cells_of (audit_of self.now).centre.record)) }
+        ensures by_record { OfDevice device (audit_of self.now)
+            (λ s. result ≡ reconcile_by device (seen_of s.record) (cells_of (audit_of self.now).centre.record)) }
         ensures by_ledger { (H : Ledger) → Sees (audit_of self.now) H → result ≡ reconcile_by device (device_in device H) (centre_in H) }
     {
         let traced = traced_of(&self.devices, device);
@@ -148,7 +148,7 @@ impl Auditor {
         self.centre.record.accounts().customer(customer.get())
     }
 
-    /// The last job that was ordered, by the commits of the host that count; 0 where there is none.
+    /// The last job that was ordered, by the commits of the host that count; 0 if no job was ordered.
     pub fn last_job(&self) -> u32
         ensures by_record { result ≡ last_in (rows_in (host_cells.cells_of (audit_of self.now).host.record)) }
         ensures by_ledger { (H : Ledger) → Sees (audit_of self.now) H → result ≡ last_in (rows_in (host_in H)) }

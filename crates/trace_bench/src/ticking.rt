@@ -1,4 +1,4 @@
-//! Marks that were seen on mail: each is told as debited once its debit counts.
+//! Marks that were seen on mail: each is recorded as debited once its debit counts.
 ghost use Rattle.std.specs.Prelude.{◌≡◌, [], Some, IfOk, OnOk, length};
 ghost use Rattle.bench_base.specs.Ledger.{Ledger};
 ghost use Rattle.trace_seen.specs.Marks.{Adds, Ticks, asked, first_line, seen_as};
@@ -43,8 +43,8 @@ pub(crate) fn tick_last(
 }
 
 impl Auditor {
-    /// Adds a mark that was seen, at this line: whether it is debited is told from then on, so add all before the first run. If it was added before nothing changes, and the
-    /// answer is the line that has it first. AllocError is lack of memory: nothing was added.
+    /// Adds a mark that was seen, at this line. Whether it is debited is recorded from then on, so add all marks before the first run. If it was
+    /// added before nothing changes, and the result is the first line that contains it. AllocError is lack of memory: nothing was added.
     pub fn see(&mut self, mark: &[u8; 64], line: u64) -> Result<Option<u64>, AllocError>
         requires ready { IsReady (audit_of self.old) }
         ensures ready { IsReady (audit_of self.new) }
@@ -55,7 +55,8 @@ impl Auditor {
         self.known.seen.add(mark, line)
     }
 
-    /// The marks that were seen, each with whether it was debited: whether a debit with this very mark counts. One whose commit is in doubt counts once an `up` says so.
+    /// The marks that were seen, each with whether it was debited: whether a debit with this very mark counts. A debit with its commit in doubt
+    /// counts once an `up` says so.
     pub fn seen(&self) -> &SeenMarks
         ensures asked { asked result.now ≡ (keeps (audit_of self.now)).seen }
         ensures by_ledger { (H : Ledger) → Sees (audit_of self.now) H → TellsDebits result.now H }

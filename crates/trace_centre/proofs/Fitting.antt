@@ -1,12 +1,10 @@
--- The acts of the centre's calls: what they commit, what they may be told as, and what they print.
+-- The acts of the centre's calls: what they commit, which replies they may get, and what they print.
 use Rattle.std.proofs.Common.{◌≡◌, ◌≢◌, ℕ, None, refl}
 use Rattle.std.specs.Prelude.{IfSome}
-use Rattle.bench_base.specs.declared.words.Node.TheVariants.{Centre}
-use Rattle.bench_base.specs.declared.events.Reply.{Reply}
+use Rattle.bench_base.specs.declared.{words.Node.TheVariants.Centre, events.Reply.Reply}
 use Rattle.bench_base.specs.declared.events.Reply.TheVariants as r
 use Rattle.bench_base.specs.Replies.{Did, class_of}
-use Rattle.node_acts.specs.declared.act.Act.{Act}
-use Rattle.node_acts.specs.declared.said.Said.{Said}
+use Rattle.node_acts.specs.declared.{act.Act.Act, said.Said.Said}
 use Rattle.node_acts.specs.Acts.{commit_of}
 use Rattle.node_acts.specs.Plans.{IsOfNode}
 use Rattle.node_acts.specs.Said.{IsPlain}
@@ -14,8 +12,7 @@ use Rattle.node_acts.specs.Views.{View}
 use Rattle.node_acts.proofs.OfCommits.{of_commit, commit_says, of_both}
 use Rattle.trace_nodes.proofs.Acts as each
 use Rattle.trace_nodes.proofs.Acts.{plain_says, unprinted_says, unreleased_says}
-use Rattle.centre_ledger.specs.declared.rows.Row.{Row}
-use Rattle.centre_ledger.specs.declared.taking.CentreAnswer.{CentreAnswer}
+use Rattle.centre_ledger.specs.declared.{rows.Row.Row, taking.CentreAnswer.CentreAnswer}
 use Rattle.centre_ledger.specs.declared.taking.CentreAnswer.TheVariants as answer
 use Rattle.centre_ledger.specs.Acts as acts
 use Rattle.centre_ledger.specs.ActLaws.{LeavesSound, SoundActs}

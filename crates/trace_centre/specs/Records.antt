@@ -23,7 +23,7 @@ pub record AreKept (cells : RowList Row) (books : Books) (total : ℕ) : Type 0 
 abbrev pub IsFit : Seen → Row → Type 0
 IsFit s x = AreSound (put_row (books_in s) x)
 
--- the numbers of a call, as an event brings them
+-- the numbers of a call, as an event contains them
 abbrev pub IsRanged : CentreCall → Type 0
 IsRanged (call.Register c) = IsDevice c.device × IsWord c.origin
 IsRanged (call.Open c) = IsCustomer c.customer

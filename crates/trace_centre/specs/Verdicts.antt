@@ -1,14 +1,9 @@
--- What a line of the report tells of an event of the centre, by what is seen of it, and by the ledger.
+-- What a line of the report shows about an event of the centre, by what is seen of it, and by the ledger.
 use Rattle.std.specs.Prelude.{ℕ, ℤ, List, Option, Result}
-use Rattle.bench_base.specs.declared.words.Node.TheVariants.{Centre}
-use Rattle.bench_base.specs.declared.ledger.Commit.{Commit}
-use Rattle.bench_base.specs.declared.events.Event.{Event}
-use Rattle.bench_base.specs.declared.events.Reply.{Reply}
-use Rattle.bench_base.specs.Ledger.{Ledger}
+use Rattle.bench_base.specs.declared.{words.Node.TheVariants.Centre, ledger.Commit.Commit, events.Reply.Reply}
 use Rattle.node_acts.specs.declared.asked.Asked.{Asked}
 use Rattle.node_acts.specs.Views.{View}
 use Rattle.centre_ledger.specs.Seen.{Seen, counting}
-use Rattle.ledger_moves.specs.Tariffs.{Tariff}
 use Rattle.bench_abstraction.specs.declared.calls.CentreCall.{CentreCall}
 use Rattle.bench_abstraction.specs.declared.routing.OfDay.TheVariants as of_day
 use Rattle.bench_abstraction.specs.Centre.{centre_kind, AreBytes}
@@ -20,9 +15,6 @@ commit_in = views.commit_in counting centre_kind Centre tt
 
 abbrev pub IsByView : ℤ → Asked CentreCall → List ℕ → View Seen → View Seen → Result (Option (List ℕ)) Reply → Type 0
 IsByView = views.IsByView counting centre_kind Centre tt
-
-abbrev pub MovesBy : Tariff → Ledger → Event → List ℕ → View Seen → Result (Option (List ℕ)) Reply → Type 0
-MovesBy = views.MovesBy counting centre_kind Centre tt
 
 abbrev pub IsByLedger : ℤ → Asked CentreCall → List ℕ → View Seen → View Seen → Result (Option (List ℕ)) Reply → Type 0
 IsByLedger = views.IsByLedger counting centre_kind Centre tt of_day.Centre AreBytes

@@ -25,7 +25,7 @@ pub fn is_known(kept: &CentreRecord)
     let _books = kept.books();
 }
 
-// By what is seen of the centre; and its record, and that after a commit, are ones that storage can show.
+// Judges by what is seen of the centre. Its record is one that storage can show, before and after a commit.
 fn judge_view(
     traced: &mut Traced<CentreRecord, Row>,
     day: DayNo,

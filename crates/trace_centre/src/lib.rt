@@ -1,4 +1,4 @@
-//! The centre by what was told of it: whether a line of the report can be the reply to an event of the centre.
+//! The centre as the report describes it: whether a line of the report can be the reply to an event of the centre.
 #![tactic(auto)]
 
 mod acts;

@@ -1,8 +1,7 @@
 -- The record after a commit of an act is one that storage can show, where the record before it and what the act commits are.
 use Rattle.std.specs.Prelude.{IfSome}
 use Rattle.bench_base.specs.declared.events.Reply.{Reply}
-use Rattle.node_acts.specs.declared.act.Act.{Act}
-use Rattle.node_acts.specs.declared.said.Said.{Said}
+use Rattle.node_acts.specs.declared.{act.Act.Act, said.Said.Said}
 use Rattle.node_acts.specs.Views.{View}
 use Rattle.node_acts.specs.Acts.{commit_of}
 use Rattle.node_acts.proofs.OfCommits.{of_commit}

@@ -1,4 +1,4 @@
--- The acts of a device's calls: what they may be told as, and what they print.
+-- The acts of a device's calls: which replies they may get, and what they print.
 use Rattle.std.proofs.Common.{◌≡◌, ◌≢◌, ℕ, ℤ, Option, refl}
 use Rattle.bench_base.specs.declared.events.Reply.TheVariants as r
 use Rattle.bench_base.specs.Replies.{Did, class_of}
@@ -9,8 +9,7 @@ use Rattle.psd_state.specs.State.{State}
 use Rattle.psd_state.specs.Acts.{make_act, debit_act, ask_act, resend_act, ack_act, status_act, take_act}
 use Rattle.psd_state.specs.declared.acts.Taken.{Taken}
 use Rattle.psd_state.specs.declared.acts.Taken.TheVariants as taken
-use Rattle.bench_abstraction.specs.declared.calls.DeviceCall.{DeviceCall}
-use Rattle.bench_abstraction.specs.declared.calls.DeviceCall.TheVariants.{Make, Debit, Ask, Resend, Ack, Status, Take}
+use Rattle.bench_abstraction.specs.declared.{calls.DeviceCall.DeviceCall, calls.DeviceCall.TheVariants.Make, calls.DeviceCall.TheVariants.Debit, calls.DeviceCall.TheVariants.Ask, calls.DeviceCall.TheVariants.Resend, calls.DeviceCall.TheVariants.Ack, calls.DeviceCall.TheVariants.Status, calls.DeviceCall.TheVariants.Take}
 use Rattle.bench_abstraction.specs.Devices.{device_act, took}
 use Rattle.trace_nodes.specs.Judged.{PrintsNone}
 use Rattle.trace_nodes.proofs.Acts.{plain_says, unprinted_says}

@@ -1,9 +1,6 @@
--- What a line of the report tells of an event of device d, by what is seen of the device, and by the ledger.
+-- What a line of the report shows about an event of device d, by what is seen of the device, and by the ledger.
 use Rattle.std.specs.Prelude.{ℕ, ℤ, List, Option, Result, Ok, Err}
-use Rattle.bench_base.specs.declared.words.Node.TheVariants.{Device}
-use Rattle.bench_base.specs.declared.ledger.Commit.{Commit}
-use Rattle.bench_base.specs.declared.events.Event.{Event}
-use Rattle.bench_base.specs.declared.events.Reply.{Reply}
+use Rattle.bench_base.specs.declared.{words.Node.TheVariants.Device, ledger.Commit.Commit, events.Event.Event, events.Reply.Reply}
 use Rattle.bench_base.specs.Plans.{Plan}
 use Rattle.bench_base.specs.Ledger.{Ledger}
 use Rattle.node_acts.specs.declared.asked.Asked.{Asked}
@@ -33,8 +30,8 @@ abbrev pub MovesBy : Tariff → Ledger → Event → ℕ → List ℕ → View S
 MovesBy τ H e d line w (Ok gave) = (reply : Reply) × MovesSo counting device_kind (Device d) d τ H e line w gave.sent gave.released reply
 MovesBy τ H e d line w (Err due) = MovesNever counting device_kind (Device d) d τ H e line w due
 
--- At each history at which the device is seen so, and for each event that asks this of it on this day and brings nothing forged, the
--- judgement of the line is that of the ledger.
+-- The judgement of the line is that of the ledger, at each history that shows the device so. This holds for each event that asks this of it on this
+-- day and contains nothing forged.
 abbrev pub IsByLedger : ℕ → ℤ → Asked DeviceCall → List ℕ → View Seen → View Seen → Result GaveOut Reply → Type 0
 IsByLedger d today asked line v w result =
     ByLedger counting device_kind (Device d) d (of_day.Device d) (λ a. Unit {0}) today asked v (λ τ H e. MovesBy τ H e d line w result)

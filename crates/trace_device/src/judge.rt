@@ -25,7 +25,7 @@ pub fn is_known(kept: &DeviceRecord)
     }
 }
 
-// By what is seen of the device; and its record, and that after a commit, are ones that storage can show.
+// Judges by what is seen of the device. Its record is one that storage can show, before and after a commit.
 fn judge_view(
     traced: &mut Traced<DeviceRecord, DevRec>,
     device: DevNo,
@@ -53,9 +53,10 @@ fn judge_view(
     }
 }
 
-/// Judges the line of an event that asks this of the device on that day. `Ok`, with the message that was sent and the mark that was released, if and only if the
-/// event may get a reply of that line, at each history at which the device is seen as the traced node shows: the traced node then shows the device at the ledger
-/// that the reply leaves. `Err`, with the answer that was due, if and only if it may get none; the traced node rests.
+/// Judges the line of an event that asks this of the device on that day. `Ok`, with the message that was sent and the mark that was released, if and
+/// only if the event may get a reply of that line, at each history that shows the device as the traced node does. The traced node then shows the
+/// device at the ledger that the reply leaves. `Err`, with the answer that was due, if and only if no reply that it may get has that line; the
+/// traced node is unchanged.
 pub fn judge_device(
     traced: &mut Traced<DeviceRecord, DevRec>,
     device: DevNo,

@@ -1,4 +1,4 @@
-//! A device by what was told of it: whether a line of the report can be the reply to an event of the device.
+//! A device as the report describes it: whether a line of the report can be the reply to an event of the device.
 #![tactic(auto)]
 
 mod acts;

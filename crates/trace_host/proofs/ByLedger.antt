@@ -1,8 +1,7 @@
 -- What is judged of a line by what is seen of the host is so by the ledger.
 use Rattle.std.proofs.Common.{◌≢◌, ℕ, ℤ, List, None, Result, Ok, Err, refl}
 use Rattle.std.specs.Prelude.{IfSome}
-use Rattle.bench_base.specs.declared.words.Node.TheVariants.{Host}
-use Rattle.bench_base.specs.declared.events.Reply.{Reply}
+use Rattle.bench_base.specs.declared.{words.Node.TheVariants.Host, events.Reply.Reply}
 use Rattle.node_acts.specs.declared.asked.Asked.{Asked}
 use Rattle.node_acts.specs.Views.{View}
 use Rattle.host_jobs.specs.Seen.{Seen, counting, rows_in, IsKnown}

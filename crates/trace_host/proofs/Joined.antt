@@ -6,8 +6,7 @@ use Rattle.std.proofs.lemmas.List.Elements.{All-from_get_or}
 use Rattle.bench_base.specs.declared.sizes.TheConstants.{MOST_COMMITS}
 use Rattle.node_acts.specs.RowList.{RowList, row_at, commits_at, commits_in, is_worn, put}
 use Rattle.node_acts.specs.RowLaws.{put_long, put_here, put_other, put_counts}
-use Rattle.host_jobs.specs.declared.rows.JobRow.{JobRow}
-use Rattle.host_jobs.specs.declared.sizes.TheConstants.{HOST_CELLS}
+use Rattle.host_jobs.specs.declared.{rows.JobRow.JobRow, sizes.TheConstants.HOST_CELLS}
 use Rattle.host_jobs.specs.Rows.{Jobs, put_row}
 use Rattle.host_jobs.specs.Seen.{cell_of, rows_in, IsKnown}
 use Rattle.host_jobs.specs.Soundness.{AreSound, IsNext}

@@ -1,8 +1,7 @@
 -- An `on`, an `off` or a `cut` of the host prints nothing.
 use Rattle.std.proofs.Common.{◌≡◌, ◌≢◌, ℕ, List, [], ◌∷◌, Option, None, Result, Bool, true, false, if◌then◌else◌, refl}
-use Rattle.bench_base.specs.declared.words.Node.TheVariants.{Host}
+use Rattle.bench_base.specs.declared.{words.Node.TheVariants.Host, events.Reply.Reply}
 use Rattle.bench_base.specs.declared.ledger.Entry.TheVariants as entry
-use Rattle.bench_base.specs.declared.events.Reply.{Reply}
 use Rattle.bench_base.specs.declared.events.Reply.TheVariants as r
 use Rattle.bench_base.specs.Plans.{refuse, told}
 use Rattle.node_acts.specs.Plans.{on_plan, when_on}

@@ -5,8 +5,7 @@ use Rattle.bench_base.specs.Ranges.{IsDevice}
 use Rattle.node_acts.specs.declared.asked.Asked.{Asked}
 use Rattle.node_acts.specs.RowList.{RowList, row_at, commits_at, commits_in}
 use Rattle.node_acts.specs.Kinds.{OfCall}
-use Rattle.host_jobs.specs.declared.rows.JobRow.{JobRow}
-use Rattle.host_jobs.specs.declared.sizes.TheConstants.{HOST_CELLS}
+use Rattle.host_jobs.specs.declared.{rows.JobRow.JobRow, sizes.TheConstants.HOST_CELLS}
 use Rattle.host_jobs.specs.ActLaws.{IsPrice}
 use Rattle.host_jobs.specs.Rows.{Jobs}
 use Rattle.host_jobs.specs.Seen.{Seen, rows_in}
@@ -29,7 +28,7 @@ IsFit s x = IsNext (rows_in s) x
 abbrev pub printing : ℕ → HostCall
 printing j = call.Print (record { job = j })
 
--- the numbers of a call, as an event brings them
+-- the numbers of a call, as an event contains them
 abbrev pub IsRanged : HostCall → Type 0
 IsRanged (call.Order c) = IsDevice c.device × IsPrice c.price
 IsRanged (call.Send c) = Unit {0}

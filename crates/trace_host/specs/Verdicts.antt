@@ -1,9 +1,6 @@
--- What a line of the report tells of an event of the host, by what is seen of it, and by the ledger.
+-- What a line of the report shows about an event of the host, by what is seen of it, and by the ledger.
 use Rattle.std.specs.Prelude.{◌≡◌, ℕ, ℤ, List, Option, None, Result, Ok, Err}
-use Rattle.bench_base.specs.declared.words.Node.TheVariants.{Host}
-use Rattle.bench_base.specs.declared.ledger.Commit.{Commit}
-use Rattle.bench_base.specs.declared.events.Event.{Event}
-use Rattle.bench_base.specs.declared.events.Reply.{Reply}
+use Rattle.bench_base.specs.declared.{words.Node.TheVariants.Host, ledger.Commit.Commit, events.Event.Event, events.Reply.Reply}
 use Rattle.bench_base.specs.Plans.{Plan}
 use Rattle.bench_base.specs.Ledger.{Ledger}
 use Rattle.node_acts.specs.declared.asked.Asked.{Asked}
@@ -35,7 +32,7 @@ abbrev pub MovesBy : Tariff → Ledger → Event → List ℕ → View Seen → 
 MovesBy τ H e line w (Ok told) = (reply : Reply) × MovesSo counting host_kind Host tt τ H e line w told.sent None reply × (told.cut ≡ tells_printer reply)
 MovesBy τ H e line w (Err due) = MovesNever counting host_kind Host tt τ H e line w due
 
--- P at each history at which the host is seen so, for each event that asks this of it on this day and brings nothing forged
+-- P at each history that shows the host so, for each event that asks this of it on this day and contains nothing forged
 abbrev pub AtHosts : ℤ → Asked HostCall → View Seen → (Tariff → Ledger → Event → Type 0) → Type 0
 AtHosts today asked v P = ByLedger counting host_kind Host tt of_day.Host (λ a. Unit {0}) today asked v P
 

@@ -25,7 +25,7 @@ pub(crate) fn is_known(kept: &HostRecord)
     let _follows = kept.kept();
 }
 
-// By what is seen of the host; and its record, and that after a commit, are ones that storage can show.
+// Judges by what is seen of the host. Its record is one that storage can show, before and after a commit.
 fn judge_view(
     traced: &mut Traced<HostRecord, JobRow>,
     day: DayNo,

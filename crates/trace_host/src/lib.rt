@@ -1,4 +1,4 @@
-//! The host by what was told of it: whether a line of the report can be the reply to an event of the host.
+//! The host as the report describes it: whether a line of the report can be the reply to an event of the host.
 #![tactic(auto)]
 
 mod acts;

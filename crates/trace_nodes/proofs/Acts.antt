@@ -1,13 +1,10 @@
 -- What holds of an act where it says its answers so, and of the record that its commit leaves.
 use Rattle.std.proofs.Common.{◌≡◌, ◌≢◌, ℕ, Option, Some, None, Bool, true, false, if◌then◌else◌, refl}
 use Rattle.std.specs.Prelude.{IfSome}
-use Rattle.bench_base.specs.declared.ledger.Commit.{Commit}
-use Rattle.bench_base.specs.declared.events.Reply.{Reply}
+use Rattle.bench_base.specs.declared.{ledger.Commit.Commit, events.Reply.Reply}
 use Rattle.bench_base.specs.declared.events.Reply.TheVariants as r
 use Rattle.bench_base.specs.Replies.{Did, Refused, class_of}
-use Rattle.node_acts.specs.declared.act.Act.{Act}
-use Rattle.node_acts.specs.declared.act.Act.TheVariants.{Refuse, Tell, Commits}
-use Rattle.node_acts.specs.declared.said.Said.{Said}
+use Rattle.node_acts.specs.declared.{act.Act.Act, act.Act.TheVariants.Refuse, act.Act.TheVariants.Tell, act.Act.TheVariants.Commits, said.Said.Said}
 use Rattle.node_acts.specs.Acts.{commit_in, commit_of, OfCommit}
 use Rattle.node_acts.specs.Said.{IsPlain, saying}
 use Rattle.node_acts.specs.Views.{Counting, View}

@@ -1,14 +1,10 @@
--- A line of a call that may print: beside what the call may come to, the printer may fail behind its commit.
+-- A line of a call that may print: beside the results of the call, the printer may fail after its commit.
 use Rattle.std.proofs.Common.{◌≡◌, ◌≢◌, ◌⊎◌, inl, inr, ℕ, List, [], get_or, Option, Some, None, false, refl, sym, ◌∙◌, ap, arith}
-use Rattle.bench_base.specs.declared.words.Node.{Node}
-use Rattle.bench_base.specs.declared.ledger.Commit.{Commit}
-use Rattle.bench_base.specs.declared.events.Reply.{Reply}
+use Rattle.bench_base.specs.declared.{words.Node.Node, ledger.Commit.Commit, events.Reply.Reply}
 use Rattle.bench_base.specs.declared.events.Reply.TheVariants as r
 use Rattle.bench_base.specs.Plans.{Plan}
 use Rattle.bench_base.specs.Replies.{class_of, tells_printer}
-use Rattle.node_acts.specs.declared.act.Act.{Act}
-use Rattle.node_acts.specs.declared.act.Outcome.{Outcome}
-use Rattle.node_acts.specs.declared.said.Said.{Said}
+use Rattle.node_acts.specs.declared.{act.Act.Act, act.Outcome.Outcome, said.Said.Said}
 use Rattle.node_acts.specs.Views.{Counting, View}
 use Rattle.node_acts.specs.Acts.{commit_of, outcome_of, MayCome, after_call}
 use Rattle.node_acts.specs.Plans.{IsOfNode, Fails, MayReply, view_after, with_commit}
@@ -47,7 +43,7 @@ cut_is_no_power m j is = let same : ◌≡◌ {A = ℕ} 111 114 = sym (power_sec
 cut_is_no_fault : (m : Node) (j : ℕ) → text_of (r.Fault m) ≡ text_of (r.PrinterFault j) → ⊥
 cut_is_no_fault m j is = let same : ◌≡◌ {A = ℕ} 102 112 = sym (fault_first m) ∙ ap first is ∙ cut_first j in absurd (omega arith)
 
--- an answer is none
+-- an answer is not a printer fault
 due_uncut : (y : Reply) → IsDue (class_of y) → tells_printer y ≡ false
 due_uncut (r.PrinterFault j) (inl did) = cc
 due_uncut (r.PrinterFault j) (inr refused) = cc
@@ -57,7 +53,7 @@ module _ {S X : Type 0} (n : Counting S X) (m : Node) (v : View S) (act : Act X 
   abbrev pub p : Plan
   p = seen_plan n m v act
 
-  -- the printer failed behind the commit of the plan
+  -- the printer failed after the commit of the plan
   pub record Unprinted (reply : Reply) : Type 0 where
     pub job : ℕ
     pub prints : p.reply ≡ r.Printed job

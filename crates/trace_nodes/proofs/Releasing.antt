@@ -1,21 +1,13 @@
 -- The marks that an event of a node releases.
 use Rattle.std.proofs.Common.{◌≡◌, ◌⊎◌, inl, inr, ℕ, List, [], ◌∷◌, ◌++◌, Option, Some, None, Result, Ok, Err, Bool, true, false, if◌then◌else◌, refl, sym, ap, subst}
-use Rattle.bench_base.specs.declared.words.Node.{Node}
-use Rattle.bench_base.specs.declared.ledger.Commit.{Commit}
-use Rattle.bench_base.specs.declared.ledger.Entry.{Entry}
+use Rattle.bench_base.specs.declared.{words.Node.Node, ledger.Commit.Commit, ledger.Entry.Entry, events.Reply.Reply}
 use Rattle.bench_base.specs.declared.ledger.Entry.TheVariants as entry
-use Rattle.bench_base.specs.declared.events.Reply.{Reply}
 use Rattle.bench_base.specs.declared.events.Reply.TheVariants as r
 use Rattle.bench_base.specs.Plans.{Plan, refuse, made, told}
 use Rattle.bench_base.specs.Replies.{ReplyClass, Did, Refused, Armed, CameOn, WentOff, LostPower, Faulted, WasDamaged, PrinterFailed, RatesFailed, class_of}
 use Rattle.bench_base.specs.Ledger.{IsReleased}
-use Rattle.node_acts.specs.declared.act.Act.{Act}
-use Rattle.node_acts.specs.declared.act.Act.TheVariants.{Refuse, Tell, Commits}
-use Rattle.node_acts.specs.declared.act.Outcome.{Outcome}
+use Rattle.node_acts.specs.declared.{act.Act.Act, act.Act.TheVariants.Refuse, act.Act.TheVariants.Tell, act.Act.TheVariants.Commits, act.Outcome.Outcome, said.Said.Said, said.GivenOut.GivenOut, said.GivenOut.TheVariants.Released, said.GivenOut.TheVariants.Printed}
 use Rattle.node_acts.specs.declared.act.Outcome.TheVariants as o
-use Rattle.node_acts.specs.declared.said.Said.{Said}
-use Rattle.node_acts.specs.declared.said.GivenOut.{GivenOut}
-use Rattle.node_acts.specs.declared.said.GivenOut.TheVariants.{Released, Printed}
 use Rattle.node_acts.specs.Views.{Counting, View}
 use Rattle.node_acts.specs.Acts.{outcome_in, outcome_of, MayCome}
 use Rattle.node_acts.specs.Plans.{with_commit, with_torn, after, after_told, IsOfNode, done_plan}
@@ -139,7 +131,7 @@ tells_none a none = by a.sent a.given none
     by (Some note) g is = given g is
 
 module _ {S X : Type 0} (n : Counting S X) (m : Node) where
-  -- the plan of an act that releases nothing tells of no release
+  -- the plan of an act that releases nothing has no release
   pub seen_unreleasing : (v : View S) (act : Act X Reply Said) → ReleasesNone act → IsUnreleasing (seen_plan n m v act).after
   seen_unreleasing v act none = by v.on
     where

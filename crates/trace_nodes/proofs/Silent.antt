@@ -1,8 +1,6 @@
--- An event whose plan prints nothing is answered by no printer fault.
+-- An event is not answered by a printer fault if its plan prints nothing.
 use Rattle.std.proofs.Common.{◌≡◌, ◌≢◌, inl, inr, ℕ, List, false, Option, Result, Ok, Err, refl, sym, ◌∙◌, ap}
-use Rattle.bench_base.specs.declared.words.Node.{Node}
-use Rattle.bench_base.specs.declared.ledger.Commit.{Commit}
-use Rattle.bench_base.specs.declared.events.Reply.{Reply}
+use Rattle.bench_base.specs.declared.{words.Node.Node, ledger.Commit.Commit, events.Reply.Reply}
 use Rattle.bench_base.specs.declared.events.Reply.TheVariants as r
 use Rattle.bench_base.specs.Plans.{Plan}
 use Rattle.node_acts.specs.Views.{Counting, View}

@@ -1,17 +1,11 @@
--- A line of a call, by what the call may come to: the replies that it may get are those of what it may come to, and their texts tell
--- them apart.
+-- A line of a call, by the possible results of the call: the replies that it may get are those of these results, and their texts distinguish them.
 use Rattle.std.proofs.Common.{◌≡◌, ◌≢◌, ◌⊎◌, inl, inr, ℕ, List, Option, Some, None, Bool, true, false, if◌then◌else◌, option_map, refl, sym, ◌∙◌, ap}
-use Rattle.bench_base.specs.declared.words.Node.{Node}
-use Rattle.bench_base.specs.declared.ledger.Commit.{Commit}
-use Rattle.bench_base.specs.declared.events.Reply.{Reply}
+use Rattle.bench_base.specs.declared.{words.Node.Node, ledger.Commit.Commit, events.Reply.Reply}
 use Rattle.bench_base.specs.declared.events.Reply.TheVariants as r
 use Rattle.bench_base.specs.Plans.{Plan, refuse, made}
 use Rattle.bench_base.specs.Replies.{ReplyClass, Did, Refused, LostPower, Faulted, class_of}
-use Rattle.node_acts.specs.declared.act.Act.{Act}
-use Rattle.node_acts.specs.declared.act.Act.TheVariants.{Refuse, Tell, Commits}
-use Rattle.node_acts.specs.declared.act.Outcome.{Outcome}
+use Rattle.node_acts.specs.declared.{act.Act.Act, act.Act.TheVariants.Refuse, act.Act.TheVariants.Tell, act.Act.TheVariants.Commits, act.Outcome.Outcome, said.Said.Said}
 use Rattle.node_acts.specs.declared.act.Outcome.TheVariants as o
-use Rattle.node_acts.specs.declared.said.Said.{Said}
 use Rattle.node_acts.specs.Views.{Counting, View}
 use Rattle.node_acts.specs.Acts.{commit_of, outcome_in, outcome_of, MayCome, after_call}
 use Rattle.node_acts.specs.Plans.{IsOfNode, MayFail, Fails, MayReply, done_plan}
@@ -144,7 +138,7 @@ module _ {S X : Type 0} (n : Counting S X) (m : Node) where
         let open_one = torn made.0 made.1 in
         (o.Fault made.0, open_one, ap r.Fault (sym (seen_own n m v act (made.0, open_one.0) own open_one.1).0 ∙ made.2))
 
-    -- == texts tell them apart ==
+    -- == texts distinguish them ==
 
     -- what it may come to is the answer, or a failure
     no_power : (i : Node) (k : Node) → class_of p.reply ≡ LostPower i → ⊥

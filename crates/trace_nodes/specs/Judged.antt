@@ -1,16 +1,12 @@
--- What a line of the report tells of an event of one node, by what is seen of the node.
+-- What a line of the report shows about an event of one node, by what is seen of the node.
 use Rattle.std.specs.Prelude.{◌≡◌, ◌≢◌, ℕ, List, [], ◌∷◌, false, Option, Some, None, Result, Ok, Err}
-use Rattle.bench_base.specs.declared.words.Node.{Node}
-use Rattle.bench_base.specs.declared.ledger.Commit.{Commit}
+use Rattle.bench_base.specs.declared.{words.Node.Node, ledger.Commit.Commit, events.Reply.Reply}
 use Rattle.bench_base.specs.declared.ledger.Entry.TheVariants as entry
-use Rattle.bench_base.specs.declared.events.Reply.{Reply}
 use Rattle.bench_base.specs.declared.events.Reply.TheVariants as r
 use Rattle.bench_base.specs.Plans.{Plan, refuse, told}
 use Rattle.bench_base.specs.Ledger.{Ledger}
 use Rattle.bench_base.specs.Replies.{class_of, tells_printer}
-use Rattle.node_acts.specs.declared.act.Act.{Act}
-use Rattle.node_acts.specs.declared.act.Act.TheVariants.{Refuse, Tell, Commits}
-use Rattle.node_acts.specs.declared.said.Said.{Said}
+use Rattle.node_acts.specs.declared.{act.Act.Act, act.Act.TheVariants.Refuse, act.Act.TheVariants.Tell, act.Act.TheVariants.Commits, said.Said.Said}
 use Rattle.node_acts.specs.Views.{Counting, View}
 use Rattle.node_acts.specs.Acts.{commit_of}
 use Rattle.node_acts.specs.Plans.{MayReply, view_after, after, on_plan, when_on}
@@ -30,12 +26,12 @@ PrintsNone (Refuse x) = Unit {0}
 PrintsNone (Tell a) = (j : ℕ) → a.reply ≢ r.Printed j
 PrintsNone (Commits c x a) = (j : ℕ) → a.reply ≢ r.Printed j
 
--- == what a line tells ==
+-- == what a line shows ==
 
 -- The event of node m has this plan and this commit, by what is seen of the node.
 module _ {S X : Type 0} (n : Counting S X) (m : Node) (v : View S) (p : Plan) (made : Option (Commit × S)) where
-  -- The line is that of this reply, whose numbers are in range, and which the event may get; the node is left so, and this is what was sent. Any other reply that
-  -- it may get with that line tells the same, and so leaves the same ledger.
+  -- The line is that of this reply, its numbers are in range, and the event may get it; the node is left so, and this is what was sent. Any other
+  -- reply that it may get with that line means the same, and so leaves the same ledger.
   pub record TellsOf (line : List ℕ) (w : View S) (sent : Option (List ℕ)) (reply : Reply) : Type 0 where
     pub text : text_of reply ≡ line
     pub whole : IsWholeReply reply

@@ -1,4 +1,4 @@
--- A node by what was told of it, as the ledger's view of a node.
+-- A node as the report describes it, as the ledger's view of a node.
 use Rattle.std.specs.Prelude.{◌≡◌, true, false, None, IfSome, option_map}
 use Rattle.node_acts.specs.declared.act.Act.{Act}
 use Rattle.node_acts.specs.Views.{Counting, View}

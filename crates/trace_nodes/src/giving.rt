@@ -15,7 +15,7 @@ use bench_base::events::Reply;
 use bench_base::words::Node;
 use node_acts::{Act, GivenOut, Outcome, Said};
 
-/// What is told of a call that may give out a mark.
+/// What is known of a call that may give out a mark.
 #[derive(Clone, Copy)]
 pub struct GaveOut {
     /// The message that it sent.
@@ -24,7 +24,7 @@ pub struct GaveOut {
     pub released: Option<[u8; 64]>,
 }
 
-/// What is told of an event that releases nothing.
+/// What is known of an event that releases nothing.
 pub fn unreleased(judged: &Result<Option<Note>, Reply>) -> Result<GaveOut, Reply>
     ensures { result ≡ giving.unreleased judged.now }
 {
@@ -67,7 +67,8 @@ pub fn judge_giving<R: Record<X>, X: Copy>(
     requires plain { IsPlain act.now }
     requires unprinted { PrintsNone act.now }
     ensures settled { IsSettled R.counting R.IsFit R.seen traced.new }
-    ensures judged { JudgedGivingCall R.counting node.now (view_of R.counting R.seen traced.old) act.now line.now (view_of R.counting R.seen traced.new) result }
+    ensures judged { JudgedGivingCall R.counting node.now (view_of R.counting R.seen traced.old) act.now line.now
+        (view_of R.counting R.seen traced.new) result }
 {
     let told = told_outcome(traced, node, act, line);
     match &told {

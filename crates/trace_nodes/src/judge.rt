@@ -1,8 +1,7 @@
 //! Whether a line of the report can be the reply to an event of a node.
 ghost use Rattle.std.specs.Prelude.{◌≡◌, ◌≢◌, ◌↔◌, IsTrue, IfSome, IfNone};
 ghost use Rattle.bench_base.specs.declared.events.Reply.{Reply};
-ghost use Rattle.node_acts.specs.declared.act.Outcome.{Outcome};
-ghost use Rattle.node_acts.specs.declared.said.Said.{Said};
+ghost use Rattle.node_acts.specs.declared.{act.Outcome.Outcome, said.Said.Said};
 ghost use Rattle.node_acts.specs.Acts.{MayCome, commit_of, after_call};
 ghost use Rattle.node_acts.specs.Plans.{IsOfNode};
 ghost use Rattle.node_acts.specs.Said.{IsPlain, said_reply, said_entries, seen_plan};
@@ -18,7 +17,7 @@ use bench_base::words::Node;
 use node_acts::{Act, Outcome, Said};
 use script_text::{Line, put_reply};
 
-/// Whether the line is that of this reply, whose numbers fit their types (`whole`).
+/// Whether the line is that of this reply. The numbers of the reply fit their types (`whole`).
 pub fn is_told(reply: &Reply, line: &[u8]) -> bool
     ensures exact { IsTrue result ↔ (text_of reply.now ≡ line.now) }
     ensures whole { IsWholeReply reply.now }
@@ -139,8 +138,9 @@ pub(crate) fn take_outcome<R: Record<X>, X: Copy>(
     }
 }
 
-/// Judges the line of a call of a node by its act. `Ok`, with the message that it sent, if and only if the call may get a reply of that
-/// line: the node is left as that reply tells. `Err`, with the answer that was due, if and only if it may get none: the node rests.
+/// Judges the line of a call of a node by its act. `Ok`, with the message that it sent, if and only if the call may get a reply of that line: the
+/// node is left as that reply says. `Err`, with the answer that was due, if and only if no reply that it may get has that line: the node is
+/// unchanged.
 pub fn judge_call<R: Record<X>, X: Copy>(
     traced: &mut Traced<R, X>,
     node: &Node,

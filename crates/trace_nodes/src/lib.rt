@@ -1,5 +1,5 @@
-//! A node by what was told of it, without storage: its record, the change that is open, and whether it is on; and whether a line of the
-//! report can be the reply to an event of the node.
+//! A node as the report describes it, without storage: its record, the change that is open, and whether it is on; and whether a line of the report
+//! can be the reply to an event of the node.
 #![tactic(auto)]
 
 mod giving;

@@ -1,4 +1,4 @@
-//! Whether a line of the report can be the reply to a call of a node that prints a mark behind its commit.
+//! Whether a line of the report can be the reply to a call of a node that prints a mark after its commit.
 ghost use Rattle.std.specs.Prelude.{◌≡◌, ◌≢◌, ℕ, MatchBool};
 ghost use Rattle.bench_base.specs.declared.events.Reply.TheVariants as r;
 ghost use Rattle.node_acts.specs.Acts.{commit_of};
@@ -17,16 +17,16 @@ use bench_base::events::Reply;
 use bench_base::words::Node;
 use node_acts::{Act, Said};
 
-/// What is told of a call that may print.
+/// What is known of a call that may print.
 #[derive(Clone, Copy)]
 pub struct PrintOutcome {
     /// The message that it sent.
     pub sent: Option<Note>,
-    /// Whether the printer failed, behind the commit.
+    /// Whether the printer failed, after the commit.
     pub cut: bool,
 }
 
-/// What is told of an event that prints nothing.
+/// What is known of an event that prints nothing.
 pub fn unprinted(judged: &Result<Option<Note>, Reply>) -> Result<PrintOutcome, Reply>
     ensures { result ≡ judged_as.unprinted judged.now }
 {
@@ -51,7 +51,7 @@ fn is_cut_off(answer: &Reply, line: &[u8]) -> bool
     }
 }
 
-// Leaves the node as a call of this act leaves it whose print failed.
+// Leaves the node as a call of this act leaves it if its print failed.
 fn take_unprinted<R: Record<X>, X: Copy>(
     traced: &mut Traced<R, X>,
     act: &Act<X, Reply, Said>,
@@ -64,14 +64,15 @@ fn take_unprinted<R: Record<X>, X: Copy>(
     requires printed { (j : ℕ) × (due.now ≡ r.Printed j) }
     ensures settled { IsSettled R.counting R.IsFit R.seen traced.new }
     ensures leaves { (j : ℕ) → view_of R.counting R.seen traced.new
-        ≡ view_after R.counting (r.PrinterFault j) (commit_of R.counting (view_of R.counting R.seen traced.old) act.now) (view_of R.counting R.seen traced.old) }
+        ≡ view_after R.counting (r.PrinterFault j) (commit_of R.counting (view_of R.counting R.seen traced.old) act.now)
+        (view_of R.counting R.seen traced.old) }
 {
     if let Act::Commits(_, change, _) = act {
         traced.record.put(change);
     }
 }
 
-/// Judges the line of a call that may print: as `judge_call`, and where the printer may fail behind the commit.
+/// Judges the line of a call that may print: as `judge_call`, but the printer may also fail after the commit.
 pub fn judge_printing<R: Record<X>, X: Copy>(
     traced: &mut Traced<R, X>,
     node: &Node,

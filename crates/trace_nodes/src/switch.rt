@@ -103,7 +103,7 @@ pub fn judge_off<R: Record<X>, X: Copy>(
     Err(due)
 }
 
-/// Judges the line of a `cut`, which no record tells of.
+/// Judges the line of a `cut`, which is in no record.
 pub fn judge_cut<R: Record<X>, X: Copy>(
     traced: &Traced<R, X>,
     node: &Node,

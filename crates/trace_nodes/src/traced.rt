@@ -1,6 +1,6 @@
-//! A node in its place, by what was told of it.
+//! A node in its place, as the report describes it.
 
-/// A node, by what was told of it: its record after the commits that count, the change of its open commit, and whether it is on.
+/// A node, as the report describes it: its record after the commits that count, the change of its open commit, and whether it is on.
 #[derive(Drop)]
 pub struct Traced<R, X> {
     pub record: R,

@@ -17,7 +17,7 @@ use Rattle.trace_runs.specs.Verdicts.{Pair, Skipped, Answered, IsPair, line_in, 
 use Rattle.trace_runs.specs.Fitting.{AreTold, rates_after}
 use Rattle.trace_runs.proofs.One.{same_ledger, same_left}
 
--- two lines with what is behind them are the same in one way
+-- two lines with what follows them are the same in one way
 pub one_split : (a b x y : List ℕ) → IsOneLine a → IsOneLine b → ended a ++ x ≡ ended b ++ y → (a ≡ b) × (x ≡ y)
 one_split [] [] x y one two is = (refl, cc)
 one_split [] (d ∷ b) x y one two is = let same : 10 ≡ d = cc in absurd (two.0 (sym same))
@@ -32,8 +32,8 @@ pub prefix_one : (prefix more : List ℕ) → IsOneLine (prefix ++ more) → IsO
 prefix_one [] more one = tt
 prefix_one (c ∷ prefix) more one = (one.0, prefix_one prefix more one.1)
 
--- How the pairs a, behind which these are left, stand to the steps b, behind which those are: the steps go on behind them, at a ledger of which P holds; or the
--- pairs go on behind the steps.
+-- How the pairs a relate to the steps b, each with what is left after them. Either the steps go on after the pairs, at a ledger with P; or the pairs
+-- go on after the steps.
 pub data Compared (τ : Tariff) (P : Ledger → List ℕ → Type 0) (H : Ledger) (left : List ℕ) (a : List Pair) (b : List TraceStep) (ra rb : List (List ℕ)) (ta tb : List ℕ) : Type 0 where
   longer : (more : List TraceStep) (K : Ledger) (l : List ℕ) → length b ≡ length a + length more → P K l → AllByRecursion (Reads script_lines) more → AllByRecursion GoesOn more
       → ra ≡ map traces.line_in more ++ rb → ta ≡ report_of script_lines more ++ tb → AreTold τ K l (done_in more)

@@ -9,8 +9,7 @@ use Rattle.line_runs.specs.declared.lines.LineRead.TheVariants as read
 use Rattle.line_runs.specs.Lines.{IsOneLine, ended}
 use Rattle.trace_runs.specs.Counted.{TookLines, HasAnswers}
 use Rattle.trace_runs.specs.Takes.{EndsAfter, AnswerTakes, answers_at, answers_behind}
-use Rattle.trace_runs.specs.declared.verdict.Ending.{Ending}
-use Rattle.trace_runs.specs.declared.verdict.Verdict.{Verdict}
+use Rattle.trace_runs.specs.declared.{verdict.Ending.Ending, verdict.Verdict.Verdict}
 use Rattle.trace_runs.proofs.WasRead.{ReadAs}
 
 each_of_both : (a b : List (List ℕ)) → AllByRecursion IsOneLine a → AllByRecursion IsOneLine b → AllByRecursion IsOneLine (a ++ b)

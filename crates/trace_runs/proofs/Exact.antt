@@ -1,10 +1,8 @@
 -- An audit is exact: what fits goes no further than it paired, and where something fits to the end, it says so.
 use Rattle.std.proofs.Common.{◌≡◌, inl, inr, ℕ, ◌+◌, ◌<◌, ◌≤◌, List, [], ◌∷◌, ◌++◌, length, map, flat_map, refl, sym, ◌∙◌, ap, subst, arith, append-nil, append_assoc}
 use Rattle.std.proofs.lemmas.List.{length-append}
-use Rattle.bench_base.specs.declared.events.Event.{Event}
+use Rattle.bench_base.specs.declared.{events.Event.Event, events.Reply.Reply, ledger.Entry.TheVariants.Begin}
 use Rattle.bench_base.specs.declared.events.Event.TheVariants as ev
-use Rattle.bench_base.specs.declared.events.Reply.{Reply}
-use Rattle.bench_base.specs.declared.ledger.Entry.TheVariants.{Begin}
 use Rattle.bench_base.specs.Ledger.{Ledger, day_in}
 use Rattle.bench_base.specs.Replies.{class_of}
 use Rattle.bench_base.specs.Rules.{todays_rules}
@@ -30,15 +28,12 @@ use Rattle.trace_runs.specs.Audits.{MayTell}
 use Rattle.trace_runs.specs.Verdicts.{Pair, Skipped, Answered, IsPair, line_in, text_for, status_of, IsEvent, HasLine, HasSome, has_line, has_prefix, EndsSo, FallsAt, IsWrong, IsSo, TellsSo, Says, imprints_from}
 use Rattle.trace_runs.specs.Prints.{ArePrinted}
 use Rattle.trace_runs.specs.Fitting.{FitsPrinted, AreTold, rates_after, FitsFirst, FitsToEnd, FitsStopped, EndsTold, BeginsTold, IsCutShort, IsLawful, IsStoppedAt, IsExact}
-use Rattle.trace_runs.specs.declared.verdict.Ending.{Ending}
-use Rattle.trace_runs.specs.declared.verdict.Ending.TheVariants.{Done as Ended, Script, TooLong}
-use Rattle.trace_runs.specs.declared.verdict.Verdict.{Verdict}
-use Rattle.trace_runs.specs.declared.verdict.Verdict.TheVariants.{Lawful, Stopped, Wrong, Forged, Unkept, More, Memory, Unread}
+use Rattle.trace_runs.specs.declared.{verdict.Ending.Ending, verdict.Ending.TheVariants.Done as Ended, verdict.Ending.TheVariants.Script, verdict.Ending.TheVariants.TooLong, verdict.Verdict.Verdict, verdict.Verdict.TheVariants.Lawful, verdict.Verdict.TheVariants.Stopped, verdict.Verdict.TheVariants.Wrong, verdict.Verdict.TheVariants.Forged, verdict.Verdict.TheVariants.Unkept, verdict.Verdict.TheVariants.More, verdict.Verdict.TheVariants.Memory, verdict.Verdict.TheVariants.Unread}
 use Rattle.trace_runs.proofs.Fitted.{Made, made, lawful_ends, stopped_begins}
 use Rattle.trace_runs.proofs.MadePrinted.{made_printed}
 use Rattle.trace_runs.proofs.Comparing.{prefix_one, Compared, longer, shorter, compare, one_split}
 
--- == lines behind which a run goes on ==
+-- == lines after which a run goes on ==
 
 not_end : (end : Ending) (number : ℕ) (line : List ℕ) (rest : List (List ℕ)) → number ≤ 1000000 → IsPassed script_grammar line → EndsAt script_grammar (status_of end) number (line ∷ rest) → ⊥
 not_end Ended number line rest inside passed at = is_grammar.end_not_passing line at.1 passed.1
@@ -85,7 +80,7 @@ not_one : (a x : List ℕ) → IsOneLine (ended a ++ x) → ⊥
 not_one [] x one = one.0 refl
 not_one (c ∷ a) x one = not_one a x one.1
 
--- bytes without a line end that a line and what is behind it begin with are a prefix of the line
+-- bytes without a line end are a prefix of the line, if a line and what follows it begin with them
 prefix_of_line : (text x prefix behind : List ℕ) → IsOneLine prefix → ended text ++ x ≡ prefix ++ behind → IsPrefixOf prefix text
 prefix_of_line text x [] behind one is = (text, refl)
 prefix_of_line [] x (c ∷ prefix) behind one is = let same : c ≡ 10 = cc is in absurd (one.0 same)
@@ -95,27 +90,27 @@ prefix_of_line (t ∷ text) x (c ∷ prefix) behind one is =
     (w.0, ap (λ (n : ℕ). n ∷ text) head ∙ ap (λ (l : List ℕ). c ∷ l) w.1)
 
 module _ (one : (x y : Reply) → IsWholeReply x → IsWholeReply y → text_of x ≡ text_of y → told x ≡ told y) (line : (r : Reply) → IsWholeReply r → IsOneLine (text_of r)) where
-  -- what the event may get, where that is told
+  -- what the event may get, by the step that is judged
   may_get : (τ : Tariff) (K : Ledger) (l told_is : List ℕ) (e : Event) (d : StepRecord) → d.event ≡ e → MayTell τ K l d → MayGet τ K e l told_is d.reply
   may_get τ K l told_is e d event may =
       let moves : Moves τ todays_rules K d.event (taken_by d.event (day_in K) (class_of d.reply) l) d.reply = subst (λ (t : List ℕ). Moves τ todays_rules K d.event t d.reply) may.takes may.moves in
       subst (λ (f : Event). Moves τ todays_rules K f (taken_by f (day_in K) (class_of d.reply) l) d.reply) event moves
 
-  -- no reply that may be told has a line of which it was said that none has it
+  -- no possible reply has a line that was judged to be that of no reply
   untold_not : (τ : Tariff) (K : Ledger) (l : List ℕ) (e : Event) (answer behind told_is : List ℕ) (new : Audit) (due : Reply) (d : StepRecord) (x : List ℕ) → HasLine told_is answer behind
       → IsUntold τ K e l answer new due → d.event ≡ e → MayTell τ K l d → told_is ≡ line_of d.reply ++ x → ⊥
   untold_not τ K l e answer behind told_is new due d x has untold event may is =
       let split = one_split (text_of d.reply) answer x behind (line d.reply may.whole) has.one (sym is ∙ has.is) in
       untold.none d.reply (may_get τ K l answer e d event may) split.0
 
-  -- no reply that may be told has a line where the report has that of none
+  -- no possible reply has the line, if the report has a line of no reply
   wrong_not : (τ : Tariff) (K : Ledger) (l : List ℕ) (e : Event) (told_is : List ℕ) (new : Audit) (due : Reply) (d : StepRecord) (x : List ℕ) (has : HasSome told_is)
       → IsWrong τ K l new e due told_is has → d.event ≡ e → MayTell τ K l d → told_is ≡ line_of d.reply ++ x → ⊥
   wrong_not τ K l e told_is new due d x (has_line answer behind has) wrong event may is = untold_not τ K l e answer behind told_is new due d x has wrong event may is
   wrong_not τ K l e told_is new due d x (has_prefix prefix behind begins one) wrong event may is =
       wrong.none d.reply (record { moves = may_get τ K l prefix e d event may; whole = may.whole; begins = prefix_of_line (text_of d.reply) x prefix behind one (sym is ∙ begins) })
 
-  -- nothing goes on behind where the verdict falls
+  -- nothing goes on after the line at which the verdict falls
   goes_past : (v : Verdict) (number : ℕ) (rest : List (List ℕ)) (told_is : List ℕ) (falls : FallsAt number rest told_is v) (τ : Tariff) (K : Ledger) (l : List ℕ) (new : Audit) → IsSo τ K l new number rest told_is v falls
       → number ≤ 1000000 → (d : TraceStep) (more : List TraceStep) (lines : List (List ℕ)) (x : List ℕ) → Reads script_lines d → GoesOn d → rest ≡ traces.line_in d ∷ lines → told_is ≡ traces.text_for d ++ x
       → AreTold τ K l (done_in (d ∷ more)) → IsCutShort v
@@ -260,7 +255,7 @@ module _ (one : (x y : Reply) → IsWholeReply x → IsWholeReply y → text_of 
         absurd (not_end fw.end (length trace + 1) (line_in p) (map line_in more ++ says.rest) (omega (arith, size, says.prefix.few)) (pair_passes p is)
         (subst (λ (r : List (List ℕ)). EndsAt script_grammar (status_of fw.end) (length trace + 1) r) lines fw.ends))
 
-    -- where the run may have been stopped behind them, it was
+    -- if the run may have been stopped after them, it was
     stops_whole : (τ : Tariff) (H : Ledger) (trace : List TraceStep) (fw : FitsStopped τ (Begin ∷ H) script report rates trace)
         → Compared τ (Falls τ) (Begin ∷ H) rates says.pairs trace says.rest fw.fits.rest says.told fw.fits.told → IsStoppedAt v (length trace + 1)
     stops_whole τ H trace fw (longer [] K l size so reads goes lines texts are behind left) =

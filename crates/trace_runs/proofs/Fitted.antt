@@ -16,12 +16,9 @@ use Rattle.trace_bench.specs.Judging.{text_with}
 use Rattle.trace_bench.specs.Seeing.{Audit}
 use Rattle.trace_runs.specs.Verdicts.{Pair, Skipped, Answered, IsPair, line_in, text_for, status_of, IsEvent, EndsSo, FallsAt, TellsSo, MayEnd, IsSo, last_given}
 use Rattle.trace_runs.specs.Fitting.{AreTold, rates_after, EndsTold, BeginsTold}
-use Rattle.trace_runs.specs.declared.verdict.Ending.{Ending}
-use Rattle.trace_runs.specs.declared.verdict.Ending.TheVariants.{Done as Ended, Script, TooLong}
-use Rattle.trace_runs.specs.declared.verdict.Verdict.{Verdict}
-use Rattle.trace_runs.specs.declared.verdict.Verdict.TheVariants.{Lawful, Stopped, Wrong, Forged, Unkept, More, Memory, Unread}
+use Rattle.trace_runs.specs.declared.{verdict.Ending.Ending, verdict.Ending.TheVariants.Done as Ended, verdict.Ending.TheVariants.Script, verdict.Ending.TheVariants.TooLong, verdict.Verdict.Verdict, verdict.Verdict.TheVariants.Lawful, verdict.Verdict.TheVariants.Stopped, verdict.Verdict.TheVariants.Wrong, verdict.Verdict.TheVariants.Forged, verdict.Verdict.TheVariants.Unkept, verdict.Verdict.TheVariants.More, verdict.Verdict.TheVariants.Memory, verdict.Verdict.TheVariants.Unread}
 
--- steps of these pairs, behind which P holds
+-- steps of these pairs, with P after them
 pub record Made (τ : Tariff) (P : Ledger → List ℕ → Type 0) (H : Ledger) (left : List ℕ) (a : List Pair) : Type 0 where
   pub trace : List TraceStep
   pub each : AllByRecursion (Reads script_lines) trace

@@ -1,8 +1,7 @@
 -- What the printer was given in an event, by the line that the report has for it.
 use Rattle.std.proofs.Common.{◌≡◌, inl, inr, ℕ, ◌+◌, List, [], Option, Some, option_map, true≢false, refl, sym, ◌∙◌, ap, subst}
-use Rattle.bench_base.specs.declared.events.Event.{Event}
+use Rattle.bench_base.specs.declared.{events.Event.Event, events.Reply.Reply}
 use Rattle.bench_base.specs.declared.events.Event.TheVariants as ev
-use Rattle.bench_base.specs.declared.events.Reply.{Reply}
 use Rattle.bench_base.specs.declared.events.Reply.TheVariants as r
 use Rattle.bench_base.specs.Plans.{Plan}
 use Rattle.bench_base.specs.Rules.{todays_rules}
@@ -20,7 +19,7 @@ use Rattle.trace_runs.specs.declared.imprint.Given.{Given}
 use Rattle.scan_laws.proofs.Tells.{is_failure}
 use Rattle.scan_laws.proofs.Plans.{plan_says, only_print}
 
--- == what of a print is told by its text ==
+-- == what the text of a print shows about it ==
 
 printed_back : (x : Reply) (j : ℕ) → told x ≡ r.Printed j → x ≡ r.Printed j
 printed_back (r.Printed i) j is = is

@@ -1,8 +1,7 @@
 -- Steps of pairs that print what the prints have.
 use Rattle.std.proofs.Common.{◌≡◌, ℕ, ◌+◌, List, [], ◌∷◌, ◌++◌, length, drop, Option, Some, None, refl, sym, ◌∙◌, ap, subst, arith}
 use Rattle.std.specs.List.{AllByRecursion}
-use Rattle.bench_base.specs.declared.events.Event.{Event}
-use Rattle.bench_base.specs.declared.events.Reply.{Reply}
+use Rattle.bench_base.specs.declared.{events.Event.Event, events.Reply.Reply}
 use Rattle.bench_base.specs.Ledger.{Ledger}
 use Rattle.bench_base.specs.Rules.{todays_rules}
 use Rattle.ledger_moves.specs.Tariffs.{Tariff}
@@ -40,7 +39,7 @@ gave reply mark g piece given took = record {
   none = λ a b. let wrong : Some g ≡ None = given.none a b in cc;
 }
 
--- steps of these pairs, behind which P holds, that print these bytes
+-- steps of these pairs, with P after them, that print these bytes
 pub record MadePrinted (τ : Tariff) (P : Ledger → List ℕ → Type 0) (H : Ledger) (left : List ℕ) (a : List Pair) (bytes : List ℕ) : Type 0 where
   pub made : Made τ P H left a
   pub run : IsRun τ H left (done_in made.trace)

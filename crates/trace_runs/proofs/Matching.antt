@@ -3,12 +3,10 @@ use Rattle.std.proofs.Common.{◌≡◌, ◌≢◌, ◌+◌, ◌==◌, ℕ, zero
 use Rattle.std.proofs.lemmas.Bool.{eqb-true}
 use Rattle.std.proofs.lemmas.List.{take-append-drop, take_at, drop_all}
 use Rattle.text_streams.specs.Texts.{print_line}
-use Rattle.trace_runs.specs.declared.imprint.Imprint.{Imprint}
-use Rattle.trace_runs.specs.declared.imprint.Printed.{Printed}
-use Rattle.trace_runs.specs.declared.imprint.Printed.TheVariants.{Whole, Failed, Stopped}
+use Rattle.trace_runs.specs.declared.{imprint.Imprint.Imprint, imprint.Printed.Printed, imprint.Printed.TheVariants.Whole, imprint.Printed.TheVariants.Failed, imprint.Printed.TheVariants.Stopped}
 use Rattle.trace_runs.specs.Prints.{Took, ArePrinted, IsWhole, FitsUpTo, BeginsOther, IsFit, DiffersAt}
 
--- what is behind the same bytes is the same
+-- what follows the same bytes is the same
 after_same : (a x y : List ℕ) → a ++ x ≡ a ++ y → x ≡ y
 after_same [] x y is = is
 after_same (c ∷ a) x y is = after_same a x y (cc)
@@ -23,7 +21,7 @@ took_line Whole mark is = refl
 took_line Failed mark is = absurd (cc is)
 took_line Stopped mark is = absurd (cc is)
 
--- what follows is printed of the imprints behind those that fit
+-- what follows is printed of the imprints after those that fit
 left_printed : (imprints : List Imprint) (bytes : List ℕ) (place : ℕ) (rest : List ℕ) → FitsUpTo imprints bytes place rest → ArePrinted imprints bytes → ArePrinted (drop place imprints) rest
 left_printed imprints bytes zero rest fits printed = subst (λ (l : List ℕ). ArePrinted imprints l) fits printed
 left_printed [] bytes (suc place) rest fits printed = absurd fits
@@ -39,7 +37,7 @@ unprinted_left [] rest over printed = over printed
 unprinted_left (i ∷ left) rest other printed =
     other.1 printed.1 (printed.2 ∙ ap (λ (l : List ℕ). l ++ printed.1) (took_whole i.given.taken i.given.mark printed.0 other.0 printed.3))
 
--- the imprint behind those that fit was taken whole, and its line is next
+-- the imprint after those that fit was taken whole, and its line is next
 fits_one_more : (imprints : List Imprint) (bytes : List ℕ) (place : ℕ) (rest : List ℕ) (i : Imprint) (behind : List Imprint) (more : List ℕ)
     → FitsUpTo imprints bytes place rest → drop place imprints ≡ i ∷ behind → IsWhole i → rest ≡ print_line i.given.mark ++ more → FitsUpTo imprints bytes (suc place) more
 fits_one_more [] bytes zero rest i behind more fits first whole is = absurd (cc first)

@@ -1,7 +1,6 @@
 -- The ledger that a run leaves is one.
 use Rattle.std.proofs.Common.{◌≡◌, ℕ, List, [], ◌∷◌, drop, length, refl, sym, ◌∙◌, ap, subst}
-use Rattle.bench_base.specs.declared.events.Event.{Event}
-use Rattle.bench_base.specs.declared.events.Reply.{Reply}
+use Rattle.bench_base.specs.declared.{events.Event.Event, events.Reply.Reply}
 use Rattle.bench_base.specs.declared.events.Reply.TheVariants as r
 use Rattle.bench_base.specs.Ledger.{Ledger, day_in}
 use Rattle.bench_base.specs.Replies.{ReplyClass, class_of}
@@ -15,7 +14,7 @@ use Rattle.script_replay.specs.Trace.{ledger_by, ledger_after}
 use Rattle.trace_runs.specs.Audits.{MayTell, IsRun, AreAlike}
 use Rattle.trace_bench.specs.Judging.{taken_by}
 
--- what a reply tells of is told by its text
+-- the text of a reply shows its class
 telling : (x : Reply) → class_of (told x) ≡ class_of x
 telling (r.ScanRefused y) = refl
 telling _ = refl

@@ -12,8 +12,7 @@ use Rattle.script_text.specs.Texts.{text_of}
 use Rattle.trace_bench.specs.Seeing.{Audit, Sees}
 use Rattle.trace_bench.specs.Stopping.{IsPrefixOf}
 use Rattle.trace_runs.specs.Imprints.{IsDueMark, IsTaken, whole, failed, stopped, IsGivenAt, LeavesOpen, IsLeftOpen}
-use Rattle.trace_runs.specs.declared.imprint.Given.{Given}
-use Rattle.trace_runs.specs.declared.imprint.Printed.TheVariants.{Whole, Failed, Stopped}
+use Rattle.trace_runs.specs.declared.{imprint.Given.Given, imprint.Printed.TheVariants.Whole, imprint.Printed.TheVariants.Failed, imprint.Printed.TheVariants.Stopped}
 
 -- of the two answers to a print, by whether each begins so
 module _ (j : ℕ) (prefix : List ℕ) (a b : Bool) (of_a : IsTrue a ↔ IsPrefixOf prefix (text_of (r.Printed j))) (of_b : IsTrue b ↔ IsPrefixOf prefix (text_of (r.PrinterFault j))) where

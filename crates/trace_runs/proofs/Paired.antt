@@ -13,16 +13,13 @@ use Rattle.trace_bench.specs.Seeing.{Audit, Sees}
 use Rattle.trace_runs.specs.Verdicts.{Pair, Skipped, Answered, IsPair, line_in, text_for, EndsSo, TellsSo, MayEnd, IsSo, Says, Audited, imprints_from, last_given}
 use Rattle.trace_runs.specs.Imprints.{imprint_at}
 use Rattle.trace_runs.specs.Turns.{AtHistories, StandsAt, Turned, Fell, FellPut, Progress, IsOver}
-use Rattle.trace_runs.specs.declared.imprint.Imprint.{Imprint}
-use Rattle.trace_runs.specs.declared.verdict.Ending.{Ending}
-use Rattle.trace_runs.specs.declared.verdict.Verdict.{Verdict}
-use Rattle.trace_runs.specs.declared.verdict.Verdict.TheVariants.{Lawful}
+use Rattle.trace_runs.specs.declared.{imprint.Imprint.Imprint, verdict.Ending.Ending, verdict.Verdict.Verdict, verdict.Verdict.TheVariants.Lawful}
 
 each_more : (P : Pair → Type 0) (a : List Pair) (p : Pair) → AllByRecursion P a → P p → AllByRecursion P (a ++ p ∷ [])
 each_more P [] p all is = (is, tt)
 each_more P (x ∷ a) p all is = (all.0, each_more P a p all.1 is)
 
--- more pairs, at the ledger behind some
+-- more pairs, at the ledger after some
 tells_more : (τ : Tariff) (P Q : Ledger → List ℕ → Type 0) (b : List Pair) → ((K : Ledger) (l : List ℕ) → P K l → TellsSo τ Q K l b)
     → (H : Ledger) (left : List ℕ) (a : List Pair) → TellsSo τ P H left a → TellsSo τ Q H left (a ++ b)
 tells_more τ P Q b then H left [] tells = then H left tells
@@ -31,7 +28,7 @@ tells_more τ P Q b then H left (Answered line e answer given ∷ a) tells =
     let w = tells in
     (w.0, w.1, tells_more τ P Q b then (ledger_by τ H w.0) (drop (length w.0.text) left) a w.2)
 
--- the same pairs, and what follows of the ledger behind them
+-- the same pairs, and what follows from the ledger after them
 tells_then : (τ : Tariff) (P Q : Ledger → List ℕ → Type 0) → ((K : Ledger) (l : List ℕ) → P K l → Q K l) → (H : Ledger) (left : List ℕ) (a : List Pair) → TellsSo τ P H left a → TellsSo τ Q H left a
 tells_then τ P Q then H left a tells = subst (λ (b : List Pair). TellsSo τ Q H left b) (append-nil a) (tells_more τ P Q [] then H left a tells)
 

@@ -10,11 +10,7 @@ use Rattle.trace_bench.specs.Seeing.{Audit, Sees}
 use Rattle.trace_runs.specs.Reads.{IsRead, OfTexts}
 use Rattle.trace_runs.specs.Turns.{Turned, FellPut, IsOver, IsTurn, IsProgress, Progress}
 use Rattle.trace_runs.specs.Verdicts.{status_of, Audited, AuditedOf}
-use Rattle.trace_runs.specs.declared.audit.Step.{Step}
-use Rattle.trace_runs.specs.declared.imprint.Imprint.{Imprint}
-use Rattle.trace_runs.specs.declared.verdict.Ending.{Ending}
-use Rattle.trace_runs.specs.declared.verdict.Ending.TheVariants.{TooLong}
-use Rattle.trace_runs.specs.declared.verdict.Verdict.{Verdict}
+use Rattle.trace_runs.specs.declared.{audit.Step.Step, imprint.Imprint.Imprint, verdict.Ending.Ending, verdict.Ending.TheVariants.TooLong, verdict.Verdict.Verdict}
 use Rattle.trace_runs.proofs.Paired.{begun, progress_more, fallen}
 use Rattle.trace_runs.proofs.WasRead.{of_map, of_end, of_any, some, then_read}
 use Rattle.trace_runs.proofs.Turning.{ends_missing, ends_long}
@@ -53,7 +49,7 @@ module _ (count : ℕ) (rates0 rates : List ℕ) (old mid new : Audit) (before h
       so = λ lines told. more_at lines told (of_any t.report.is_all _ t.goes_on.1 (of_any t.script.is_all _ (t.goes_on.0 ∙ is) t.so lines) told);
     }
 
-    -- the script has ended behind the line, without a line end
+    -- the script has ended after the line, without a line end
     pub ends : step.is_last ≡ true → count + 1 ≤ 1000000 → (end : Ending) (v : Verdict) → EndsAt script_grammar (status_of end) (count + 2) [] → (r3 : Option (List ℕ))
         → (o : IsRead r2 r3) × OfTexts o (λ behind told. IsOver end (count + 2) behind v) → AuditedOf v s0 s2 r0 r3 rates0 old new before after
     ends is few end v at r3 over = record {

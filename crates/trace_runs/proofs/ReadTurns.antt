@@ -16,13 +16,9 @@ use Rattle.trace_bench.specs.Seeing.{Audit, Sees}
 use Rattle.trace_runs.specs.Reads.{IsRead, OfTexts}
 use Rattle.trace_runs.specs.Stops.{StopsSo}
 use Rattle.trace_runs.specs.Turns.{FellPut, TurnsSo, BeginsWith, IsOver, IsAnswer, IsTurn}
-use Rattle.trace_runs.specs.declared.audit.Step.{Step}
-use Rattle.trace_runs.specs.declared.imprint.Imprint.{Imprint}
-use Rattle.trace_runs.specs.declared.verdict.Ending.{Ending}
+use Rattle.trace_runs.specs.declared.{audit.Step.Step, imprint.Imprint.Imprint, verdict.Ending.Ending, verdict.Verdict.Verdict, verdict.Verdict.TheVariants.Lawful, verdict.Verdict.TheVariants.Stopped, verdict.Verdict.TheVariants.More, verdict.Verdict.TheVariants.Unread}
 use Rattle.trace_runs.specs.declared.verdict.Ending.TheVariants as ends
 use Rattle.trace_runs.specs.declared.verdict.Input.TheVariants as input
-use Rattle.trace_runs.specs.declared.verdict.Verdict.{Verdict}
-use Rattle.trace_runs.specs.declared.verdict.Verdict.TheVariants.{Lawful, Stopped, More, Unread}
 use Rattle.trace_runs.proofs.Comparing.{prefix_one}
 use Rattle.trace_runs.proofs.WasRead.{of_map, nothing, some, whole, then_read, FirstLine, ReadAs, long_line}
 use Rattle.trace_runs.proofs.Turning.{turned_before, stops, too_long, unread, ends_missing, ends_bad, skips, script_unread}

@@ -1,9 +1,7 @@
 -- What becomes of one line.
 use Rattle.std.proofs.Common.{◌≡◌, ◌≢◌, ◌⊎◌, ℕ, ◌<◌, ◌≤◌, List, [], ◌∷◌, ◌++◌, length, drop, Bool, false, Option, None, Result, Ok, Err, append-nil, IfOk, IfErr, IsTrue, ◌↔◌, refl, sym, ◌∙◌, ap, subst}
-use Rattle.bench_base.specs.declared.events.Event.{Event}
+use Rattle.bench_base.specs.declared.{events.Event.Event, events.Reply.Reply, questions.Brought.TheVariants.Nothing}
 use Rattle.bench_base.specs.declared.events.Event.TheVariants as ev
-use Rattle.bench_base.specs.declared.events.Reply.{Reply}
-use Rattle.bench_base.specs.declared.questions.Brought.TheVariants.{Nothing}
 use Rattle.bench_base.specs.Events.{brought_by, IsWholeEvent}
 use Rattle.bench_base.specs.Ledger.{Ledger}
 use Rattle.bench_base.specs.Rules.{todays_rules, editions}
@@ -30,13 +28,9 @@ use Rattle.trace_runs.specs.Imprints.{IsGiven, IsDueMark, GivesSo, imprint_at}
 use Rattle.trace_runs.specs.Verdicts.{Skipped, Answered, status_of, IsEvent, HasLine, has_line, has_prefix, IsAnswered}
 use Rattle.trace_runs.specs.Stops.{StopsSo}
 use Rattle.trace_runs.specs.Turns.{StandsAt, Turned, FellPut, TurnsSo, BeginsWith, IsOver}
-use Rattle.trace_runs.specs.declared.imprint.Given.{Given}
-use Rattle.trace_runs.specs.declared.imprint.Imprint.{Imprint}
-use Rattle.trace_runs.specs.declared.verdict.Ending.{Ending}
+use Rattle.trace_runs.specs.declared.{imprint.Given.Given, imprint.Imprint.Imprint, verdict.Ending.Ending, verdict.Verdict.Verdict, verdict.Verdict.TheVariants.Lawful, verdict.Verdict.TheVariants.Stopped, verdict.Verdict.TheVariants.Wrong, verdict.Verdict.TheVariants.Forged, verdict.Verdict.TheVariants.Unkept, verdict.Verdict.TheVariants.More, verdict.Verdict.TheVariants.Memory, verdict.Verdict.TheVariants.Unread}
 use Rattle.trace_runs.specs.declared.verdict.Ending.TheVariants as ends
 use Rattle.trace_runs.specs.declared.verdict.Input.TheVariants as input
-use Rattle.trace_runs.specs.declared.verdict.Verdict.{Verdict}
-use Rattle.trace_runs.specs.declared.verdict.Verdict.TheVariants.{Lawful, Stopped, Wrong, Forged, Unkept, More, Memory, Unread}
 use Rattle.trace_runs.proofs.Giving.{given_by}
 use Rattle.trace_runs.proofs.Paired.{over_falls}
 
@@ -61,7 +55,7 @@ module _ (number : ℕ) (inside : number ≤ 1000000) (script line lines : List 
   is_event : IsEvent number (lines_of script) e
   is_event = record { inside = inside; line = line; more = lines_of lines; rest_is = begins.first; short = begins.short; is = begins.is }
 
-  -- the event brings nothing forged, at each history that the auditor has
+  -- the event contains nothing forged, at each history that the auditor has
   abbrev IsUnforgedThere : Type 0
   IsUnforgedThere = AtHistory old (λ H. Unforged e H)
 
@@ -106,7 +100,7 @@ module _ (number : ℕ) (inside : number ≤ 1000000) (script line lines : List 
   pub unread : (before : List Imprint) → FellPut number script report rates old new before before (Unread input.Report number)
   unread before = (record { falls = refl; so = λ τ H texts history seen. tt }, sym (append-nil before))
 
-  -- its line goes on behind more than the prefix of any answer
+  -- its line goes on after more than the prefix of any answer
   pub too_long : (v : Verdict) (prefix behind : List ℕ) (before after : List Imprint) → report ≡ prefix ++ behind → IsOneLine prefix → ((n : ℕ) → v ≡ Stopped n → ⊥) → IsUnforgedThere → StopsSo number e prefix rates old new before after v
       → FellPut number script report rates old new before after v
   too_long (Stopped n) prefix behind before after is one never unforged stop = absurd (never n refl)

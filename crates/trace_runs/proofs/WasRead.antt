@@ -1,4 +1,4 @@
--- What follows of what was read of a source, whatever stands behind it.
+-- What follows from what was read of a source, whatever follows those bytes.
 use Rattle.std.proofs.Common.{◌≡◌, ℕ, ◌≤◌, List, [], ◌∷◌, ◌++◌, length, take, Bool, true, false, not, Option, Some, None, refl, sym, ◌∙◌, ap, subst, append-nil, true≢false, arith}
 use Rattle.std.proofs.lemmas.List.{length-append, length-take}
 use Rattle.std.proofs.KnownBytes.{Consumes-nil, Consumes-trans}
@@ -10,7 +10,7 @@ use Rattle.line_runs.specs.Lines.{IsOneLine, ended, IsLineIn, ReadsLine}
 use Rattle.line_runs.proofs.EndLaws.{lines_of_ended, lines_of_last, long_prefix}
 use Rattle.trace_runs.specs.Reads.{IsRead, OfBehind, OfTexts}
 
--- == whatever stands behind ==
+-- == whatever follows those bytes ==
 
 pub of_map : (all : Bool) (P Q : List ℕ → Type 0) → ((x : List ℕ) → P x → Q x) → OfBehind all P → OfBehind all Q
 of_map true P Q then p = then [] p
@@ -31,11 +31,11 @@ of_any false P is p = p
 abbrev pub nothing : (left : Option (List ℕ)) → IsRead left left
 nothing left = record { bytes = []; is_all = false; consumed = Consumes-nil left; ended = λ wrong. absurd (true≢false (sym wrong)) }
 
--- these bytes, behind which more may stand
+-- these bytes, which more bytes may follow
 abbrev pub some : {left0 left1 : Option (List ℕ)} (bytes : List ℕ) → Consumes left0 left1 bytes → IsRead left0 left1
 some bytes consumed = record { bytes = bytes; is_all = false; consumed = consumed; ended = λ wrong. absurd (true≢false (sym wrong)) }
 
--- these bytes, behind which the end was seen
+-- these bytes, after which the end was seen
 abbrev pub whole : {left0 left1 : Option (List ℕ)} (bytes : List ℕ) → Consumes left0 left1 bytes → IsAtEnd left1 → IsRead left0 left1
 whole bytes consumed end = record { bytes = bytes; is_all = true; consumed = consumed; ended = λ is. end }
 
@@ -43,7 +43,7 @@ whole bytes consumed end = record { bytes = bytes; is_all = true; consumed = con
 abbrev pub then_read : {left0 left1 left2 : Option (List ℕ)} (bytes : List ℕ) → Consumes left0 left1 bytes → IsRead left1 left2 → IsRead left0 left2
 then_read {left0} {left1} {left2} bytes consumed r = record { bytes = bytes ++ r.bytes; is_all = r.is_all; consumed = Consumes-trans left0 left1 left2 bytes r.bytes consumed r.consumed; ended = r.ended }
 
--- a source that told what it had had what was read, and what stands behind it
+-- a source with contents that can be observed had what was read, and what follows it
 pub told_all : (text : List ℕ) (left : Option (List ℕ)) (r : IsRead (Some text) left) (P : List ℕ → List ℕ → Type 0) → OfTexts r P → (behind : List ℕ) × P text behind
 told_all text None r P p = absurd r.consumed
 told_all text (Some behind) r P p = by r.is_all refl p

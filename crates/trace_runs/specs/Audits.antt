@@ -1,4 +1,4 @@
--- What a script, its report, the rates and the prints tell together, and what an audit says of them.
+-- What a script, its report, the rates and the prints show together, and what an audit says of them.
 use Rattle.std.specs.Prelude.{◌≡◌, ℕ, ◌+◌, ◌<◌, ◌≤◌, List, [], ◌∷◌, ◌++◌, length, drop, Bool, true, false, ◌⊎◌}
 use Rattle.std.specs.List.{AllByRecursion}
 use Rattle.bench_base.specs.declared.events.Event.{Event}
@@ -24,7 +24,7 @@ use Rattle.trace_bench.specs.Judging.{taken_by}
 
 -- == what may be done for a line ==
 
--- the event may get this reply there, whose numbers are in range, brings nothing forged, and takes this of the rates
+-- the event may get this reply there, the numbers of the reply are in range, the event contains nothing forged, and it takes this of the rates
 pub record MayTell (τ : Tariff) (H : Ledger) (left : List ℕ) (d : StepRecord) : Type 0 where
   pub unforged : Unforged d.event H
   pub moves : Moves τ todays_rules H d.event d.text d.reply
@@ -66,15 +66,15 @@ abbrev pub IsBadRest : List ℕ → Type 0
 IsBadRest script = (script ≡ [])
     ⊎ ((line : List ℕ) × (more : List (List ℕ)) × (lines_of script ≡ line ∷ more) × ((600 < length line) ⊎ IsBad line))
 
--- what may stand in the place of the line of this number, and behind it
+-- what may be in the place of the line of this number, and after it
 pub data Ending (τ : Tariff) (H : Ledger) (left : List ℕ) (number : ℕ) (script report : List ℕ) : Type 0 where
   -- `end` was answered; what follows in the script is not looked at
   ended_well : (line rest : List ℕ) → IsNext ev.End number script line rest → report ≡ line_of r.End → Ending τ H left number script report
-  -- the next line is bad, or there is none, and the report ends there too
+  -- the next line is bad, or there is no next line, and the report ends there too
   ended_badly : number ≤ 1000000 → IsBadRest script → report ≡ [] → Ending τ H left number script report
   -- a million lines were done, and no more is looked at
   ended_long : number ≡ 1000001 → report ≡ [] → Ending τ H left number script report
-  -- the last line has no line end: it was done, and no line is behind it
+  -- the last line has no line end: it was done, and no line follows it
   ran_out : number ≤ 1000000 → (last : TraceStep) → Reads script_lines last → GoesOn last → script ≡ line_in last → 0 < length script
       → IsRun τ H left (done_in (last ∷ [])) → report ≡ text_for last → Ending τ H left number script report
   -- the report ends within the line of a reply that the next event may get, or before it: the run was stopped there, or its report failed
@@ -100,14 +100,14 @@ module _ {τ : Tariff} {H : Ledger} {left : List ℕ} {number : ℕ} {script rep
 
 -- == what an audit says ==
 
--- Over this ledger, at which a run begins.
+-- The ledger is the one at which a run begins.
 module _ (τ : Tariff) (H : Ledger) (script report rates : List ℕ) where
   -- The first lines of the script and of the report fit together: each line's event got that line's reply.
   pub record Prefix : Type 0 where
     pub trace : List TraceStep
     pub each : AllByRecursion (Reads script_lines) trace
     pub go_on : AllByRecursion GoesOn trace
-    -- what is left of the script and of the report behind them
+    -- what is left of the script and of the report after them
     pub rest : List ℕ
     pub told : List ℕ
     pub script_is : script ≡ script_of script_lines trace ++ rest
@@ -115,14 +115,14 @@ module _ (τ : Tariff) (H : Ledger) (script report rates : List ℕ) where
     pub few : length trace ≤ 1000000
     pub run : IsRun τ H rates (done_in trace)
 
-  -- the ledger behind them, and the rates that are left there
+  -- the ledger after them, and the rates that are left there
   abbrev pub ledger_behind : Prefix → Ledger
   ledger_behind f = ledger_after τ H (done_in f.trace)
 
   abbrev pub rates_behind : Prefix → List ℕ
   rates_behind f = drop (length (rates_of (done_in f.trace))) rates
 
-  -- Script, report, rates and prints fit together. What the printer took behind the last whole line is left open where the run was stopped.
+  -- Script, report, rates and prints fit together. If the run was stopped, what the printer took after the last whole line is left open.
   pub record Fits (prints : List ℕ) : Type 0 where
     pub prefix : Prefix
     pub ends : Ending τ (ledger_behind prefix) (rates_behind prefix) (length prefix.trace + 1) prefix.rest prefix.told
@@ -130,6 +130,6 @@ module _ (τ : Tariff) (H : Ledger) (script report rates : List ℕ) where
     pub prints_are : prints ≡ printed_of (done_in prefix.trace ++ done_last ends) ++ tail
     pub no_tail : is_stopped ends ≡ false → tail ≡ []
 
-  -- the ledger that the run leaves; where it was stopped, the one before the line in which it was
+  -- the ledger that the run leaves; if it was stopped, the ledger before the line of the stop
   abbrev pub ledger_left : {prints : List ℕ} → Fits prints → Ledger
   ledger_left f = ledger_after τ H (done_in f.prefix.trace ++ done_last f.ends)

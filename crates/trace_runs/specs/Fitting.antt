@@ -1,9 +1,8 @@
 -- What steps fit a script and its report, prints aside; and how the verdict of an audit stands to them.
 use Rattle.std.specs.Prelude.{◌≡◌, ℕ, ◌+◌, ◌≤◌, List, [], ◌∷◌, ◌++◌, length, map, drop, ◌⊎◌}
 use Rattle.std.specs.List.{AllByRecursion}
-use Rattle.bench_base.specs.declared.events.Event.{Event}
+use Rattle.bench_base.specs.declared.{events.Event.Event, ledger.Entry.TheVariants.Begin}
 use Rattle.bench_base.specs.declared.events.Event.TheVariants as ev
-use Rattle.bench_base.specs.declared.ledger.Entry.TheVariants.{Begin}
 use Rattle.bench_base.specs.Ledger.{Ledger}
 use Rattle.bench_base.specs.Rules.{editions}
 use Rattle.bench_abstraction.specs.Tariff.{IsOfTexts}
@@ -20,13 +19,9 @@ use Rattle.trace_bench.specs.Stopping.{IsPrefixOf}
 use Rattle.trace_runs.specs.Audits.{MayTell, IsRun}
 use Rattle.trace_runs.specs.Prints.{ArePrinted}
 use Rattle.trace_runs.specs.Verdicts.{IsEvent, Says, Audited, status_of}
-use Rattle.trace_runs.specs.declared.imprint.Imprint.{Imprint}
-use Rattle.trace_runs.specs.declared.verdict.Ending.{Ending}
-use Rattle.trace_runs.specs.declared.verdict.Ending.TheVariants.{Done as Ended, Script, TooLong}
-use Rattle.trace_runs.specs.declared.verdict.Verdict.{Verdict}
-use Rattle.trace_runs.specs.declared.verdict.Verdict.TheVariants.{Lawful, Stopped, Wrong, Forged, Unkept, More, Memory, Unread}
+use Rattle.trace_runs.specs.declared.{imprint.Imprint.Imprint, verdict.Ending.Ending, verdict.Ending.TheVariants.Done as Ended, verdict.Ending.TheVariants.Script, verdict.Ending.TheVariants.TooLong, verdict.Verdict.Verdict, verdict.Verdict.TheVariants.Lawful, verdict.Verdict.TheVariants.Stopped, verdict.Verdict.TheVariants.Wrong, verdict.Verdict.TheVariants.Forged, verdict.Verdict.TheVariants.Unkept, verdict.Verdict.TheVariants.More, verdict.Verdict.TheVariants.Memory, verdict.Verdict.TheVariants.Unread}
 
--- each may be told in turn, at the ledger and with the rates that those before it leave
+-- each is possible in turn, at the ledger and with the rates that those before it leave
 abbrev pub AreTold : Tariff → Ledger → List ℕ → List StepRecord → Type 0
 AreTold τ H left [] = Unit {0}
 AreTold τ H left (d ∷ rest) = MayTell τ H left d × AreTold τ (ledger_by τ H d) (drop (length d.text) left) rest
@@ -47,9 +42,9 @@ EndsTold τ K left TooLong told = told ≡ []
 abbrev pub BeginsTold : Tariff → Ledger → List ℕ → Event → List ℕ → Type 0
 BeginsTold τ K left e told = (d : StepRecord) × (d.event ≡ e) × MayTell τ K left d × IsPrefixOf told (text_of d.reply)
 
--- Over the ledger at which a run begins.
+-- The ledger is the one at which a run begins.
 module _ (τ : Tariff) (H : Ledger) (script report rates : List ℕ) where
-  -- These steps fit: their lines are the first of the script, their replies' lines the first of the report, and each may be told in turn.
+  -- These steps fit: their lines are the first of the script, their replies' lines the first of the report, and each is possible in turn.
   pub record FitsFirst (trace : List TraceStep) : Type 0 where
     pub each : AllByRecursion (Reads script_lines) trace
     pub go_on : AllByRecursion GoesOn trace
@@ -60,7 +55,7 @@ module _ (τ : Tariff) (H : Ledger) (script report rates : List ℕ) where
     pub report_is : report ≡ report_of script_lines trace ++ told
     pub are : AreTold τ H rates (done_in trace)
 
-  -- They fit to the end: the script ends behind them, and the report with it.
+  -- They fit to the end: the script ends after them, and the report with it.
   pub record FitsToEnd (trace : List TraceStep) : Type 0 where
     pub fits : FitsFirst trace
     pub end : Ending
@@ -80,7 +75,8 @@ module _ (τ : Tariff) (H : Ledger) (script report rates : List ℕ) where
     pub run : IsRun τ H rates (done_in trace)
     pub prints_are : prints ≡ printed_of (done_in trace)
 
--- no more was judged, since there was no memory, what is to be read could not be, or an event brings bytes and nothing is kept by which forged ones are told
+-- no more was judged, since there was no memory, or an input could not be read, or an event contains bytes and the auditor keeps nothing to
+-- recognize forged ones
 abbrev pub IsCutShort : Verdict → Type 0
 IsCutShort (Lawful end) = ⊥
 IsCutShort (Stopped n) = ⊥
@@ -103,9 +99,10 @@ IsStoppedAt v number = (v ≡ Stopped number) ⊎ IsCutShort v
 abbrev pub AtSeen : Audit → (Tariff → Ledger → Type 0) → Type 0
 AtSeen old P = (τ : Tariff) (H : Ledger) → IsOfTexts τ → History τ editions H → Sees old H → P τ (Begin ∷ H)
 
--- AN AUDIT IS EXACT: no steps that fit are more than it paired, unless it was cut short; so where it says that a line is wrong, or that its event brings
--- something forged, none fit with that line. Where any fit to the end, it says that the run is lawful; and where it says so, some do. Where any fit up to a place at which
--- the run may have been stopped, it says that; and where it says so, some do.
+-- AN AUDIT IS EXACT. No steps that fit are more than it paired, unless it was cut short. So if it says that a line is wrong, or that its event
+-- contains forged bytes, no steps fit with that line. If any steps fit to the end, it says that the run is lawful, unless it was cut short; and if
+-- it says so, some do. If any steps fit up to a place at which the run may have been stopped, it says that, unless it was cut short; and if it says
+-- so, some do.
 pub record IsExact (v : Verdict) (script report rates : List ℕ) (old new : Audit) (says : Says v script report rates old new) : Type 0 where
   pub longest : (IsCutShort v → ⊥) → AtSeen old (λ τ H. (trace : List TraceStep) → FitsFirst τ H script report rates trace → length trace ≤ length says.pairs)
   pub complete : AtSeen old (λ τ H. (trace : List TraceStep) → FitsToEnd τ H script report rates trace → IsLawful v)
@@ -115,7 +112,7 @@ pub record IsExact (v : Verdict) (script report rates : List ℕ) (old new : Aud
   pub stopped : (n : ℕ) → v ≡ Stopped n
       → AtSeen old (λ τ H. (trace : List TraceStep) × FitsStopped τ H script report rates trace)
 
--- Where an audit of a run says that it is lawful, and these are the prints of what was given, some steps fit that print them.
+-- If an audit of a run says that it is lawful, and these are the prints of what was given, some steps fit that print them.
 abbrev pub PrintsFit : Verdict → List ℕ → List ℕ → List ℕ → Audit → Audit → List Imprint → Type 0
 PrintsFit v script report rates old new given =
     (a : Audited v script report rates old new [] given) (end : Ending) (prints : List ℕ) → v ≡ Lawful end → ArePrinted given prints

@@ -3,13 +3,10 @@ use Rattle.std.specs.Prelude.{◌≡◌, ◌≢◌, ℕ, zero, suc, List, [], �
 use Rattle.text_streams.specs.Texts.{print_line}
 use Rattle.line_runs.specs.Lines.{IsCutOff}
 use Rattle.trace_bench.specs.Stopping.{IsPrefixOf}
-use Rattle.trace_runs.specs.declared.imprint.Imprint.{Imprint}
-use Rattle.trace_runs.specs.declared.imprint.Printed.{Printed}
-use Rattle.trace_runs.specs.declared.imprint.Printed.TheVariants.{Whole, Failed, Stopped}
-use Rattle.trace_runs.specs.declared.prints.Match.{Match}
-use Rattle.trace_runs.specs.declared.prints.Match.TheVariants.{Fit, Differ, Open}
+use Rattle.trace_runs.specs.declared.{imprint.Imprint.Imprint, imprint.Printed.Printed, imprint.Printed.TheVariants.Whole, imprint.Printed.TheVariants.Failed, imprint.Printed.TheVariants.Stopped, prints.Match.Match, prints.Match.TheVariants.Fit, prints.Match.TheVariants.Differ, prints.Match.TheVariants.Open}
 
--- The printer took the whole line of a mark; it failed in it, and took a prefix that isn't all of it; or the run was stopped there, and it took none, some or all of it.
+-- The printer took the whole line of a mark; it failed in it, and took a prefix that isn't all of it; or the run was stopped there, and it
+-- took none, some or all of it.
 abbrev pub Took : Printed → List ℕ → List ℕ → Type 0
 Took Whole mark piece = piece ≡ print_line mark
 Took Failed mark piece = IsCutOff piece (print_line mark)
@@ -24,7 +21,7 @@ ArePrinted (i ∷ imprints) bytes = (piece rest : List ℕ) × (bytes ≡ piece 
 abbrev pub IsWhole : Imprint → Type 0
 IsWhole i = i.given.taken ≡ Whole
 
--- so many imprints are there and were taken whole, the bytes begin with their lines, and this is left behind them
+-- so many imprints are there and were taken whole, the bytes begin with their lines, and this is left after them
 abbrev pub FitsUpTo : List Imprint → List ℕ → ℕ → List ℕ → Type 0
 FitsUpTo imprints bytes zero rest = bytes ≡ rest
 FitsUpTo [] bytes (suc place) rest = ⊥
@@ -35,7 +32,7 @@ abbrev pub BeginsOpen : List Imprint → Type 0
 BeginsOpen [] = ⊥
 BeginsOpen (i ∷ imprints) = IsWhole i → ⊥
 
--- the first of these was taken whole, and the bytes don't begin with its line; or there is none, and bytes are left over
+-- the first of these was taken whole, and the bytes don't begin with its line; or there is no imprint, and bytes are left over
 abbrev pub BeginsOther : List Imprint → List ℕ → Type 0
 BeginsOther [] bytes = bytes ≢ []
 BeginsOther (i ∷ imprints) bytes = IsWhole i × ((more : List ℕ) → bytes ≢ print_line i.given.mark ++ more)

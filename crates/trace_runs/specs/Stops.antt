@@ -9,10 +9,7 @@ use Rattle.trace_bench.specs.Judging.{AtEach}
 use Rattle.trace_bench.specs.Seeing.{Audit, Sees}
 use Rattle.trace_bench.specs.Stopping.{IsBegun, IsUnbegun}
 use Rattle.trace_runs.specs.Imprints.{IsLeftOpen, imprint_at}
-use Rattle.trace_runs.specs.declared.imprint.Given.{Given}
-use Rattle.trace_runs.specs.declared.imprint.Imprint.{Imprint}
-use Rattle.trace_runs.specs.declared.verdict.Verdict.{Verdict}
-use Rattle.trace_runs.specs.declared.verdict.Verdict.TheVariants.{Lawful, Stopped, Wrong, Forged, Unkept, More, Memory, Unread}
+use Rattle.trace_runs.specs.declared.{imprint.Given.Given, imprint.Imprint.Imprint, verdict.Verdict.Verdict, verdict.Verdict.TheVariants.Lawful, verdict.Verdict.TheVariants.Stopped, verdict.Verdict.TheVariants.Wrong, verdict.Verdict.TheVariants.Forged, verdict.Verdict.TheVariants.Unkept, verdict.Verdict.TheVariants.More, verdict.Verdict.TheVariants.Memory, verdict.Verdict.TheVariants.Unread}
 
 -- The event of the line of this number; these bytes of the report and of the rates are left.
 module _ (number : ℕ) (e : Event) (report rates : List ℕ) (old new : Audit) (before after : List Imprint) where

@@ -1,13 +1,10 @@
--- What an audit of one run says: how far the lines of a script and of its report were paired, and where that ended, by the bytes alone; and what
--- of it may be so, at each ledger that the auditor sees as the run begins.
+-- What an audit of one run says: how far the lines of a script and of its report were paired, and where that ended. This is by the bytes alone; the
+-- rest is what may be so at each ledger that the auditor sees as the run begins.
 use Rattle.std.specs.Prelude.{◌≡◌, ◌≢◌, ℕ, ◌+◌, ◌<◌, ◌≤◌, List, [], ◌∷◌, ◌++◌, length, map, drop, flat_map, false, Option, None}
 use Rattle.std.specs.List.{AllByRecursion}
-use Rattle.bench_base.specs.declared.events.Event.{Event}
+use Rattle.bench_base.specs.declared.{events.Event.Event, events.Reply.Reply, ledger.Entry.TheVariants.Begin, questions.Brought.TheVariants.Nothing}
 use Rattle.bench_base.specs.declared.events.Event.TheVariants as ev
-use Rattle.bench_base.specs.declared.events.Reply.{Reply}
 use Rattle.bench_base.specs.Events.{brought_by}
-use Rattle.bench_base.specs.declared.ledger.Entry.TheVariants.{Begin}
-use Rattle.bench_base.specs.declared.questions.Brought.TheVariants.{Nothing}
 use Rattle.bench_base.specs.Ledger.{Ledger}
 use Rattle.bench_base.specs.Rules.{todays_rules, editions}
 use Rattle.bench_abstraction.specs.Tariff.{IsOfTexts}
@@ -31,12 +28,7 @@ use Rattle.trace_bench.specs.Seeing.{Audit, Sees, keeps}
 use Rattle.trace_runs.specs.Audits.{MayTell}
 use Rattle.trace_runs.specs.Imprints.{IsGiven, IsLeftOpen, imprint_at}
 use Rattle.trace_runs.specs.Reads.{IsRead, OfTexts}
-use Rattle.trace_runs.specs.declared.imprint.Given.{Given}
-use Rattle.trace_runs.specs.declared.imprint.Imprint.{Imprint}
-use Rattle.trace_runs.specs.declared.verdict.Ending.{Ending}
-use Rattle.trace_runs.specs.declared.verdict.Ending.TheVariants.{Done as Ended, Script, TooLong}
-use Rattle.trace_runs.specs.declared.verdict.Verdict.{Verdict}
-use Rattle.trace_runs.specs.declared.verdict.Verdict.TheVariants.{Lawful, Stopped, Wrong, Forged, Unkept, More, Memory, Unread}
+use Rattle.trace_runs.specs.declared.{imprint.Given.Given, imprint.Imprint.Imprint, verdict.Ending.Ending, verdict.Ending.TheVariants.Done as Ended, verdict.Ending.TheVariants.Script, verdict.Ending.TheVariants.TooLong, verdict.Verdict.Verdict, verdict.Verdict.TheVariants.Lawful, verdict.Verdict.TheVariants.Stopped, verdict.Verdict.TheVariants.Wrong, verdict.Verdict.TheVariants.Forged, verdict.Verdict.TheVariants.Unkept, verdict.Verdict.TheVariants.More, verdict.Verdict.TheVariants.Memory, verdict.Verdict.TheVariants.Unread}
 
 -- == lines of the script, each with its line of the report ==
 
@@ -53,7 +45,7 @@ abbrev pub text_for : Pair → List ℕ
 text_for (Skipped line) = []
 text_for (Answered line e answer given) = ended answer
 
--- the line is what the pair says it is; a run goes on behind it
+-- the line is what the pair says it is; a run goes on after it
 abbrev pub IsOf : Pair → Type 0
 IsOf (Skipped line) = IsSkipped line
 IsOf (Answered line e answer given) = IsLineOf e line × IsOneLine answer × ((e ≡ ev.End) → ⊥)
@@ -87,7 +79,7 @@ pub record IsEvent (number : ℕ) (rest : List (List ℕ)) (e : Event) : Type 0 
   pub short : length line ≤ 600
   pub is : IsLineOf e line
 
--- the report has this line next, and these bytes behind it
+-- the report has this line next, and these bytes after it
 pub record HasLine (told answer behind : List ℕ) : Type 0 where
   pub one : IsOneLine answer
   pub is : told ≡ ended answer ++ behind
@@ -97,21 +89,24 @@ pub data HasSome (told : List ℕ) : Type 0 where
   has_line : (answer behind : List ℕ) → HasLine told answer behind → HasSome told
   has_prefix : (prefix behind : List ℕ) → told ≡ prefix ++ behind → IsOneLine prefix → HasSome told
 
--- what the report has for the end of the script, and behind it: a line for `end`, and nothing else for any other end
+-- what the report has for the end of the script, and after it: a line for `end`, and nothing for any other end
 abbrev pub HasEnd : Ending → List ℕ → List ℕ → Type 0
 HasEnd Ended told behind = (answer : List ℕ) × HasLine told answer behind
 HasEnd (Script line) told behind = told ≡ behind
 HasEnd TooLong told behind = told ≡ behind
 
--- The script ends so at the line of this number, and the report has this behind that end.
+-- The script ends so at the line of this number, and the report has this after that end.
 pub record EndsSo (number : ℕ) (rest : List (List ℕ)) (told : List ℕ) (end : Ending) (behind : List ℕ) : Type 0 where
   pub script : EndsAt script_grammar (status_of end) number rest
   pub report : HasEnd end told behind
 
--- The verdict falls at the line of this number, where these lines of the script and these bytes of the report are left: the two end together; the report goes
--- on behind the end of the script; it ends before the line end of the next answer, where this is open of what was printed; it has a line for the next event, or ends
--- before its line end, which the event can't get; there is a next event, which brings something forged, or bytes, or for which there was no memory; or the script or the
--- report could not be read there.
+-- The verdict falls at the line of this number, with these lines of the script and these bytes of the report left.
+-- `Lawful`: the two end together.
+-- `More`: the report goes on after the end of the script.
+-- `Stopped`: the report ends before the line end of the next answer, and this is open of what was printed.
+-- `Wrong`: the report has a line for the next event, or ends before its line end, which the event can't get.
+-- `Forged`, `Unkept`, `Memory`: there is a next event, which contains something forged, or contains bytes, or lacked memory.
+-- `Unread`: the script or the report could not be read there.
 abbrev pub FallsAt : ℕ → List (List ℕ) → List ℕ → Verdict → Type 0
 FallsAt number rest told (Lawful end) = EndsSo number rest told end []
 FallsAt number rest told (More n) = (n ≡ number) × (end : Ending) × (behind : List ℕ) × EndsSo number rest told end behind × (0 < length behind)
@@ -135,15 +130,15 @@ last_given number rest told (Unread input n) at = None
 
 -- == what may be so ==
 
--- what may be done there for the event, whose reply has this line, and with which the printer was given this
+-- what may be done there for the event, with a reply of this line; the printer was given this with it
 pub record IsAnswered (τ : Tariff) (H : Ledger) (left : List ℕ) (e : Event) (answer : List ℕ) (given : Option Given) (d : StepRecord) : Type 0 where
   pub event : d.event ≡ e
   pub text : text_of d.reply ≡ answer
   pub may : MayTell τ H left d
   pub gives : IsGiven d.reply (print_of (plan τ todays_rules H d.event d.text).after) given
 
--- Each event in turn, at the ledger and with the rates that those before it leave, may get a reply of its line, and brings nothing forged. And P holds of the
--- ledger and the rates behind them.
+-- Each event in turn, at the ledger and with the rates that those before it leave, may get a reply of its line, and contains nothing forged. And P
+-- holds of the ledger and the rates after them.
 abbrev pub TellsSo : Tariff → (Ledger → List ℕ → Type 0) → Ledger → List ℕ → List Pair → Type 0
 TellsSo τ P H left [] = P H left
 TellsSo τ P H left (Skipped line ∷ pairs) = TellsSo τ P H left pairs
@@ -152,20 +147,24 @@ TellsSo τ P H left (Answered line e answer given ∷ pairs) =
 
 -- At this ledger, with these rates left; the auditor is left so.
 module _ (τ : Tariff) (H : Ledger) (left : List ℕ) (now : Audit) where
-  -- `end` may get this line, and the auditor sees the ledger behind it; at any other end it sees this one
+  -- `end` may get this line, and the auditor sees the ledger after it; at any other end it sees this one
   abbrev pub MayEnd : (end : Ending) (told behind : List ℕ) → HasEnd end told behind → Type 0
   MayEnd Ended told behind has = (d : StepRecord) × IsAnswered τ H left ev.End has.0 None d × Sees now (ledger_by τ H d)
   MayEnd (Script line) told behind has = Sees now H
   MayEnd TooLong told behind has = Sees now H
 
-  -- the event may get no reply of the line that the report has, or none whose line begins with these bytes of it; this was the answer
+  -- the event may get no reply with the line of the report, or no reply with a line that begins with these bytes of it; this was the answer
   abbrev pub IsWrong : (e : Event) (due : Reply) (told : List ℕ) → HasSome told → Type 0
   IsWrong e due told (has_line answer behind line) = IsUntold τ H e left answer now due
   IsWrong e due told (has_prefix prefix behind is one) = IsUnbegun τ H e left prefix now due
 
-  -- What the verdict says where it falls: the end may be so; the next event brings nothing forged, and what the report ends with may be the prefix of the line of a
-  -- reply, and the auditor sees a ledger that the event may have left, as `Leaves` says; it brings nothing forged, and may not get what the report
-  -- has; it brings something forged; or the auditor does not keep what was sent and released.
+  -- What the verdict says at the line at which it falls.
+  -- `Lawful`, `More`: the end may be so.
+  -- `Stopped`: the next event contains nothing forged, and what the report ends with may be the prefix of the line of a reply. The auditor sees a
+  -- ledger that the event may have left, as `Leaves` says.
+  -- `Wrong`: it contains nothing forged, and may not get what the report has.
+  -- `Forged`: it contains something forged.
+  -- `Unkept`: the auditor does not keep what was sent and released.
   abbrev pub IsSo : (number : ℕ) (rest : List (List ℕ)) (told : List ℕ) (v : Verdict) → FallsAt number rest told v → Type 0
   IsSo number rest told (Lawful end) at = MayEnd end told [] at.report
   IsSo number rest told (More n) at = MayEnd at.1 told at.2 at.3.report
@@ -176,8 +175,8 @@ module _ (τ : Tariff) (H : Ledger) (left : List ℕ) (now : Audit) where
   IsSo number rest told Memory at = Unit {0}
   IsSo number rest told (Unread input n) at = Unit {0}
 
--- WHAT AN AUDIT SAYS of a script, its report and the rates: how far the two were paired and where the verdict falls; and for each history that the auditor
--- sees as the run begins, by a tariff of texts, that the pairs may be so, and what the verdict says there.
+-- WHAT AN AUDIT SAYS of a script, its report and the rates: how far the two were paired and where the verdict falls. For each history that the
+-- auditor sees as the run begins, by a tariff of texts, the pairs may be so, and what the verdict says there holds.
 pub record Says (v : Verdict) (script report rates : List ℕ) (old new : Audit) : Type 0 where
   pub pairs : List Pair
   pub rest : List (List ℕ)
@@ -193,13 +192,15 @@ imprints_from number [] = []
 imprints_from number (Skipped line ∷ pairs) = imprints_from (number + 1) pairs
 imprints_from number (Answered line e answer given ∷ pairs) = imprint_at number given ++ imprints_from (number + 1) pairs
 
--- it says so, and what the printer was given was put behind what it was given before; and behind that what is open of it, where the run was stopped
+-- it says so, and what the printer was given was added after what it was given before; what is open of it follows that, if the run was stopped
 pub record Audited (v : Verdict) (script report rates : List ℕ) (old new : Audit) (before after : List Imprint) : Type 0 where
   pub says : Says v script report rates old new
-  pub prints : after ≡ before ++ (imprints_from 1 says.pairs ++ imprint_at (length says.pairs + 1) (last_given (length says.pairs + 1) says.rest says.told v says.falls))
+  pub prints : after ≡ before ++ (imprints_from 1 says.pairs ++ imprint_at (length says.pairs + 1)
+      (last_given (length says.pairs + 1) says.rest says.told v says.falls))
 
--- WHAT AN AUDIT SAYS OF WHAT IT READ: whatever stands behind that in the script and in the report, which is nothing where the end was seen.
-pub record AuditedOf (v : Verdict) (script0 script1 report0 report1 : Option (List ℕ)) (rates : List ℕ) (old new : Audit) (before after : List Imprint) : Type 0 where
+-- WHAT AN AUDIT SAYS OF WHAT IT READ: it holds whatever follows that in the script and in the report, which is nothing if the end was seen.
+pub record AuditedOf (v : Verdict) (script0 script1 report0 report1 : Option (List ℕ)) (rates : List ℕ) (old new : Audit)
+    (before after : List Imprint) : Type 0 where
   pub script : IsRead script0 script1
   pub report : IsRead report0 report1
   pub so : OfTexts script (λ text lines. OfTexts report (λ answers told. Audited v text answers rates old new before after))

@@ -24,8 +24,8 @@ use std::alloc::Global;
 use text_streams::ReadAhead;
 use trace_bench::{Auditor, Finding, index, is_forged, judge};
 
-// Judges the line that the report has for the event of the line of this number: how much of the rates the event took, in bytes. What is left of the report
-// stands behind its line end.
+// Judges the line that the report has for the event of the line of this number: how much of the rates the event took, in bytes. What is left of the
+// report follows the line end.
 fn judge_line<R: Source>(
     alloc: Global,
     auditor: &mut Auditor,
@@ -49,7 +49,8 @@ fn judge_line<R: Source>(
         imprints.old.items imprints.new.items (⟦<ReadAhead<R> as Source>⟧.left report.old) (⟦<ReadAhead<R> as Source>⟧.left report.new) result }
     ensures counted { AnswerTakes 0 (⟦<ReadAhead<R> as Source>⟧.left report.old) (⟦<ReadAhead<R> as Source>⟧.left report.new) result }
     ensures later { ⟦<ReadAhead<R> as Source>⟧.faults report.old ≤ ⟦<ReadAhead<R> as Source>⟧.faults report.new }
-    ensures failed { IfErr result (λ v. FailsSo Input.Report (⟦<ReadAhead<R> as Source>⟧.faults report.old) (⟦<ReadAhead<R> as Source>⟧.faults report.new) v × HasScript v) }
+    ensures failed { IfErr result (λ v. FailsSo Input.Report (⟦<ReadAhead<R> as Source>⟧.faults report.old)
+        (⟦<ReadAhead<R> as Source>⟧.faults report.new) v × HasScript v) }
 {
     one_reply();
     let mark = due_mark(auditor, event);
@@ -67,7 +68,7 @@ fn judge_line<R: Source>(
     }
 }
 
-// Judges what the report has for the event, which brings nothing forged.
+// Judges what the report has for the event, which contains nothing forged.
 fn hear<R: Source>(
     alloc: Global,
     auditor: &mut Auditor,
@@ -90,7 +91,8 @@ fn hear<R: Source>(
         (⟦<ReadAhead<R> as Source>⟧.left report.old) (⟦<ReadAhead<R> as Source>⟧.left report.new) result }
     ensures counted { AnswerTakes 1 (⟦<ReadAhead<R> as Source>⟧.left report.old) (⟦<ReadAhead<R> as Source>⟧.left report.new) result }
     ensures later { ⟦<ReadAhead<R> as Source>⟧.faults report.old ≤ ⟦<ReadAhead<R> as Source>⟧.faults report.new }
-    ensures failed { IfErr result (λ v. FailsSo Input.Report (⟦<ReadAhead<R> as Source>⟧.faults report.old) (⟦<ReadAhead<R> as Source>⟧.faults report.new) v × HasScript v) }
+    ensures failed { IfErr result (λ v. FailsSo Input.Report (⟦<ReadAhead<R> as Source>⟧.faults report.old)
+        (⟦<ReadAhead<R> as Source>⟧.faults report.new) v × HasScript v) }
 {
     match read_line(report, buf) {
         LineRead::Line(len, is_ended) => {
@@ -107,7 +109,8 @@ fn hear<R: Source>(
     }
 }
 
-// Reads and judges what the report has for the event of the line of this number, once what the event asks for of all runs is found by its hash: how much of the rates it took, in bytes.
+// Reads and judges what the report has for the event of the line of this number, once what the event asks for of all runs is found by its
+// hash: how much of the rates it took, in bytes.
 pub(crate) fn answer<R: Source>(
     alloc: Global,
     auditor: &mut Auditor,
@@ -129,7 +132,8 @@ pub(crate) fn answer<R: Source>(
         (⟦<ReadAhead<R> as Source>⟧.left report.old) (⟦<ReadAhead<R> as Source>⟧.left report.new) result }
     ensures counted { AnswerTakes 1 (⟦<ReadAhead<R> as Source>⟧.left report.old) (⟦<ReadAhead<R> as Source>⟧.left report.new) result }
     ensures later { ⟦<ReadAhead<R> as Source>⟧.faults report.old ≤ ⟦<ReadAhead<R> as Source>⟧.faults report.new }
-    ensures failed { IfErr result (λ v. FailsSo Input.Report (⟦<ReadAhead<R> as Source>⟧.faults report.old) (⟦<ReadAhead<R> as Source>⟧.faults report.new) v × HasScript v) }
+    ensures failed { IfErr result (λ v. FailsSo Input.Report (⟦<ReadAhead<R> as Source>⟧.faults report.old)
+        (⟦<ReadAhead<R> as Source>⟧.faults report.new) v × HasScript v) }
 {
     if index(alloc, auditor, event).is_err() {
         return Err(Verdict::Memory);

@@ -20,7 +20,7 @@ use std::alloc::Global;
 use text_streams::ReadAhead;
 use trace_bench::Auditor;
 
-// What a line took: of the rates in bytes, and of the report in lines; and whether the script has ended behind it, without a line end.
+// What a line took: of the rates in bytes, and of the report in lines; and whether the script has ended after it, without a line end.
 #[derive(Clone, Copy)]
 pub(crate) struct Step {
     pub rates: usize,
@@ -28,7 +28,7 @@ pub(crate) struct Step {
     pub is_last: bool,
 }
 
-/// What is left behind so many bytes.
+/// What is left after so many bytes.
 pub fn behind(bytes: &[u8], taken: usize) -> &[u8]
     ensures { result.now ≡ drop taken bytes.now }
 {
@@ -39,7 +39,7 @@ pub fn behind(bytes: &[u8], taken: usize) -> &[u8]
     }
 }
 
-// The verdict, with the answers before it, and that to `end`, if the run is lawful and has it.
+// The verdict, with the number of answers before it, and the answer to `end`, if the run is lawful and has one.
 fn judged(verdict: Verdict, answers: u32) -> Judgment
     requires few { answers ≤ 1000000 }
     ensures verdict { result.verdict ≡ verdict }
@@ -82,7 +82,8 @@ fn turn<S: Source, R: Source>(
     ensures kept { keeps (audit_of auditor.new) ≡ keeps (audit_of auditor.old) }
     ensures few { length (audit_of auditor.new).messages ≤ length (audit_of auditor.old).messages + 1 }
     ensures turns { IsTurn number rates.now (audit_of auditor.old) (audit_of auditor.new) imprints.old.items imprints.new.items
-        (⟦<ReadAhead<S> as Source>⟧.left script.old) (⟦<ReadAhead<S> as Source>⟧.left script.new) (⟦<ReadAhead<R> as Source>⟧.left report.old) (⟦<ReadAhead<R> as Source>⟧.left report.new) result }
+        (⟦<ReadAhead<S> as Source>⟧.left script.old) (⟦<ReadAhead<S> as Source>⟧.left script.new) (⟦<ReadAhead<R> as Source>⟧.left report.old)
+        (⟦<ReadAhead<R> as Source>⟧.left report.new) result }
     ensures script_later { ⟦<ReadAhead<S> as Source>⟧.faults script.old ≤ ⟦<ReadAhead<S> as Source>⟧.faults script.new }
     ensures counted { TurnTakes (⟦<ReadAhead<R> as Source>⟧.left report.old) (⟦<ReadAhead<R> as Source>⟧.left report.new) result }
     ensures few_answers { IfOk result (λ step. step.answers ≤ 1) }
@@ -122,18 +123,19 @@ fn turn<S: Source, R: Source>(
     }
 }
 
-/// Audits one run over what the auditor has: whether each event of the script may get the line that the report has for it, in turn, where these are the rates.
-/// The auditor begins the run, and has behind it what the verdict says of the lines that were paired; so runs are audited in order over one auditor.
+/// Audits one run over what the auditor has: whether each event of the script may get the line that the report has for it, in turn, with these
+/// rates. The auditor begins the run. After it the auditor has what the verdict says of the lines that were paired. So runs are audited in order
+/// over one auditor.
 ///
-/// Script and report are read once, a line at a time, and no further than the verdict asks for: what it says holds whatever stands behind that. `Unread` comes only where a
-/// source's count of faults rose.
+/// Script and report are read once, a line at a time, and no further than the verdict asks for. What it says holds whatever follows that. `Unread`
+/// is returned only if a source's count of faults rose.
 ///
-/// Each line of a report that is lawful is one answer, and they are counted.
+/// Each line of a lawful report is one answer. The answers are counted.
 ///
-/// What the printer was given in the lines that were paired is put behind the imprints, and what is open of it where the run was stopped. An event whose answer is
-/// begun was done; where that is in doubt a stop is reported as one in which a node lost its power, if it may have. So a run over what was kept may be audited next. No
-/// answer is judged of an event that brings forged bytes: the audit ends there. It also ends at an event that brings bytes if the auditor does not keep what was sent and
-/// released; an auditor that keeps it judges each.
+/// What the printer was given in the lines that were paired is added to the imprints. If the run was stopped, what is open of it is added too. An
+/// event was done if its answer is begun. If that is in doubt, a stop is reported as one in which a node lost its power, if it may have. So a run
+/// over what was kept may be audited next. No answer is judged of an event that contains forged bytes: the audit ends there. It also ends at an
+/// event that contains bytes if the auditor does not keep what was sent and released; an auditor that keeps it judges each.
 #[inline(always)]
 pub fn audit_run<S: Source, R: Source>(
     alloc: Global,
@@ -146,7 +148,8 @@ pub fn audit_run<S: Source, R: Source>(
     requires ready { IsReady (audit_of auditor.old) }
     ensures ready { IsReady (audit_of auditor.new) }
     ensures kept { keeps (audit_of auditor.new) ≡ keeps (audit_of auditor.old) }
-    ensures audited { AuditedOf result.verdict (⟦<ReadAhead<S> as Source>⟧.left script.old) (⟦<ReadAhead<S> as Source>⟧.left script.new) (⟦<ReadAhead<R> as Source>⟧.left report.old) (⟦<ReadAhead<R> as Source>⟧.left report.new) rates.now
+    ensures audited { AuditedOf result.verdict (⟦<ReadAhead<S> as Source>⟧.left script.old) (⟦<ReadAhead<S> as Source>⟧.left script.new)
+        (⟦<ReadAhead<R> as Source>⟧.left report.old) (⟦<ReadAhead<R> as Source>⟧.left report.new) rates.now
         (audit_of auditor.old) (audit_of auditor.new) imprints.old.items imprints.new.items }
     ensures counted { HasAnswers result.answers (⟦<ReadAhead<R> as Source>⟧.left report.old) (⟦<ReadAhead<R> as Source>⟧.left report.new) result.verdict }
     ensures script_later { ⟦<ReadAhead<S> as Source>⟧.faults script.old ≤ ⟦<ReadAhead<S> as Source>⟧.faults script.new }

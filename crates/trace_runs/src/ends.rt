@@ -1,4 +1,4 @@
-//! Where a script ends: how, and whether the report ends there too.
+//! How a script ends, and whether the report ends there too.
 ghost use Rattle.std.specs.Prelude.{◌≤◌, []};
 ghost use Rattle.line_runs.specs.Ends.{EndsAt};
 ghost use Rattle.line_extensions.specs.Scripts.{script_grammar};
@@ -30,10 +30,12 @@ pub(crate) fn missing_at(number: u32) -> Ending
 
 // What is said where the script ends so at the line of this number, by what is left of the report.
 pub(crate) fn over<R: Source>(end: Ending, number: u32, report: &mut ReadAhead<R>) -> Verdict
-    ensures over { (read : IsRead (⟦<ReadAhead<R> as Source>⟧.left report.old) (⟦<ReadAhead<R> as Source>⟧.left report.new)) × OfTexts read (λ behind told. IsOver end number behind result) }
+    ensures over { (read : IsRead (⟦<ReadAhead<R> as Source>⟧.left report.old) (⟦<ReadAhead<R> as Source>⟧.left report.new))
+        × OfTexts read (λ behind told. IsOver end number behind result) }
     ensures counted { EndsAfter end 0 (⟦<ReadAhead<R> as Source>⟧.left report.old) (⟦<ReadAhead<R> as Source>⟧.left report.new) result }
     ensures later { ⟦<ReadAhead<R> as Source>⟧.faults report.old ≤ ⟦<ReadAhead<R> as Source>⟧.faults report.new }
-    ensures failed { FailsSo Input.Report (⟦<ReadAhead<R> as Source>⟧.faults report.old) (⟦<ReadAhead<R> as Source>⟧.faults report.new) result × HasScript result }
+    ensures failed { FailsSo Input.Report (⟦<ReadAhead<R> as Source>⟧.faults report.old) (⟦<ReadAhead<R> as Source>⟧.faults report.new) result
+        × HasScript result }
 {
     let mut buf = [0; 600];
     match read_line(report, &mut buf) {

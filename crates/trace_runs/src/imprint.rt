@@ -70,8 +70,8 @@ pub(crate) fn given_in(event: &Event, due: Option<[u8; 64]>, line: &[u8]) -> Opt
     None
 }
 
-// What the printer took in a `print` of this job, of whose answer this stands there: the whole line of the mark, or not all of it, as the answer begins to tell; where that
-// is not told, none, some or all of it.
+// What the printer took in a `print` of this job, if the report ends with this prefix of its answer. It took the whole line of the mark, or not all
+// of it, if the prefix decides that. Otherwise it took none, some or all of it.
 fn taken_by(job: u32, prefix: &[u8]) -> Printed
     ensures { IsTaken job prefix.now result }
 {
@@ -87,7 +87,7 @@ fn taken_by(job: u32, prefix: &[u8]) -> Printed
     }
 }
 
-// What the printer was given in an event that prints this mark where nothing fails, and of whose line this prefix stands there, if anything.
+// What the printer was given in an event that prints this mark if nothing fails, and has this prefix of its line in the report, if anything.
 pub(crate) fn open_in(event: &Event, due: Option<[u8; 64]>, prefix: &[u8]) -> Option<Given>
     ensures { LeavesOpen event.now due prefix.now result }
 {
@@ -103,7 +103,7 @@ pub(crate) fn open_in(event: &Event, due: Option<[u8; 64]>, prefix: &[u8]) -> Op
     })
 }
 
-// Puts it behind the others, if the printer was given something.
+// Adds it after the others, if the printer was given something.
 pub(crate) fn keep(
     imprints: &mut Vec<Imprint>,
     line: u32,

@@ -12,13 +12,13 @@ ghost use Rattle.trace_bench.specs.Seeing.{Audit};
 ghost use Rattle.trace_runs.specs.Audits.{IsRun, AreAlike, Fits, ledger_left};
 ghost use Rattle.trace_runs.specs.Fitting.{AreTold, IsExact, PrintsFit};
 ghost use Rattle.trace_runs.specs.Verdicts.{Audited, AuditedOf, Says};
-ghost use Rattle.trace_runs.specs.declared.imprint.Imprint.{Imprint};
-ghost use Rattle.trace_runs.specs.declared.verdict.Verdict.{Verdict};
+ghost use Rattle.trace_runs.specs.declared.{imprint.Imprint.Imprint, verdict.Verdict.Verdict};
 
 use ledger_laws::laws::histories;
 use script_text::laws::{one_line, one_reply};
 
-/// Where a script and its report fit together over a history, they make a lawful ledger, which is a history again; and so do steps that may be told in turn.
+/// If a script and its report fit together over a history, they make a lawful ledger. Steps that are possible in turn make one too, and steps of a
+/// run make a history again.
 pub fn fits_are_lawful()
     ensures history { (τ : Tariff) (H : Ledger) (left : List ℕ) (trace : List StepRecord) → History τ editions H → IsRun τ H left trace
         → History τ editions (ledger_after τ H trace) }
@@ -30,7 +30,7 @@ pub fn fits_are_lawful()
     histories();
 }
 
-/// Script, report and rates leave one ledger: two runs of the same events whose lines of the report are the same leave the same.
+/// Script, report and rates leave one ledger: two runs of the same events with the same lines of the report leave the same.
 pub fn one_ledger()
     ensures { (τ : Tariff) (H : Ledger) (left : List ℕ) (a b : List StepRecord) → IsRun τ H left a → IsRun τ H left b → AreAlike a b
         → ledger_after τ H a ≡ ledger_after τ H b }
@@ -38,7 +38,8 @@ pub fn one_ledger()
     one_reply();
 }
 
-/// An audit is exact: what it says of a run leaves no steps that fit further than it paired; and where any fit to the end, it says that the run is lawful.
+/// An audit is exact, unless it was cut short. What it says of a run leaves no steps that fit further than it paired. If any steps fit to the end,
+/// it says that the run is lawful.
 pub fn audits_are_exact()
     ensures { (v : Verdict) (script report rates : List ℕ) (old new : Audit) (says : Says v script report rates old new)
         → IsExact v script report rates old new says }
@@ -55,7 +56,7 @@ pub fn prints_fit()
     one_line();
 }
 
-/// Of sources that tell what they have, an audit says of all of that what it says of what it read.
+/// If sources expose what they have, an audit says of all of that what it says of what it read.
 pub fn audits_read_all()
     ensures { (v : Verdict) (script report rates : List ℕ) (script_left report_left : Option (List ℕ)) (old new : Audit) (before after : List Imprint)
         → AuditedOf v (Some script) script_left (Some report) report_left rates old new before after → Audited v script report rates old new before after }

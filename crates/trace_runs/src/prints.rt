@@ -1,4 +1,4 @@
-//! Whether prints are those that reports tell of.
+//! Whether prints are those that reports show.
 ghost use Rattle.std.specs.Prelude.{◌≡◌, ◌↔◌, ◌+◌, ◌<◌, ◌∷◌, IsTrue, drop, length, take};
 ghost use Rattle.text_streams.specs.Texts.{print_line};
 ghost use Rattle.trace_runs.specs.Prints.{Matches};
@@ -15,10 +15,10 @@ const LINE: usize = 129;
 pub enum Match {
     /// They are those of the imprints.
     Fit,
-    /// They aren't: they fit before the imprint in this place, counted from 0, and there is not its line; where it is the number of imprints, all fit, and bytes
-    /// are left over.
+    /// They aren't: they fit before the imprint in this place, counted from 0, and there is not its line; where it is the number of
+    /// imprints, all fit, and bytes are left over.
     Differ(usize),
-    /// They fit before the imprint in this place, in which the printer failed or the run was stopped; what is printed from there on is not judged.
+    /// They fit before the imprint in this place. There the printer failed or the run was stopped; what is printed from there on is not judged.
     Open(usize),
 }
 
@@ -51,7 +51,7 @@ fn first_of(prints: &[u8]) -> &[u8]
     }
 }
 
-// The imprint in this place, and those behind it.
+// The imprint in this place, and those after it.
 fn imprint_in(imprints: &[Imprint], place: usize) -> Imprint
     requires inside { place < length imprints.now }
     ensures { drop place imprints.now ≡ result ∷ drop (place + 1) imprints.now }

@@ -1,11 +1,10 @@
-//! Where a report ends before the line end of an answer.
+//! A report that ends before the line end of an answer.
 ghost use Rattle.std.specs.Prelude.{◌≡◌, ◌≢◌, ◌+◌, ◌<◌, ◌≤◌, ℕ, length};
 ghost use Rattle.bench_base.specs.Events.{IsWholeEvent};
 ghost use Rattle.bench.specs.declared.benches.TheConstants.{MOST_MESSAGES};
 ghost use Rattle.trace_bench.specs.Seeing.{IsReady, audit_of, keeps};
 ghost use Rattle.trace_runs.specs.Stops.{StopsSo};
-ghost use Rattle.trace_runs.specs.declared.verdict.Ending.{Ending};
-ghost use Rattle.trace_runs.specs.declared.verdict.Verdict.{Verdict};
+ghost use Rattle.trace_runs.specs.declared.{verdict.Ending.Ending, verdict.Verdict.Verdict};
 
 use crate::imprint::{Imprint, due_mark, keep, open_in};
 use crate::verdict::Verdict;

@@ -26,18 +26,19 @@ pub enum Input {
 pub enum Verdict {
     /// Each event may have got the line that the report has for it, and the report ends as the script does.
     Lawful(Ending),
-    /// So far as for `Lawful`; but the report ends before the line end of the answer to the line of this number, which is that of an event. What
-    /// stands there, which may be nothing, is the prefix of the line of a reply that the event may get.
+    /// So far as for `Lawful`; but the report ends before the line end of the answer to the line of this number, which is that of an event. The
+    /// report then ends with the prefix, which may be empty, of the line of a reply that the event may get.
     Stopped(u32),
-    /// The lines before the line of this number may be so, but its event may get no reply of the line that the report has, nor one whose line begins
-    /// with what it ends with. This was the answer.
+    /// The lines before the line of this number may be so, but its event may get no reply with the line that the report has, and no reply with a
+    /// line that begins with what it ends with. This was the answer.
     Wrong(u32, Reply),
-    /// The lines before the line of this number may be so, and its event brings forged bytes: with the right code of whoever they name, or as a mark
-    /// for the host, and not sent or released in any run before. What the report has for it is not looked at.
+    /// The lines before the line of this number may be so, and its event contains forged bytes. They have the right MAC of whoever they name, or are
+    /// a mark for the host, and were not sent or released in any run before. What the report has for it is not looked at.
     Forged(u32),
-    /// The lines before the line of this number may be so, and its event brings bytes; but the auditor does not keep what was sent and released, by which forged ones are told.
+    /// The lines before the line of this number may be so, and its event contains bytes. But the auditor does not keep what was sent and released,
+    /// so it can't recognize forged ones.
     Unkept(u32),
-    /// The script ends at the line of this number, and the report goes on behind.
+    /// The script ends at the line of this number, and the report goes on.
     More(u32),
     /// There was no memory, for rates or for a message.
     Memory,

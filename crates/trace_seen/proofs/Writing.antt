@@ -7,12 +7,11 @@ use Rattle.std.specs.Map.{lookup, set_value}
 use Rattle.std.proofs.lemmas.Option.{same_Some}
 use Rattle.std.proofs.lemmas.Slice.Eq.{bytes_eq-Decides}
 use Rattle.std.proofs.lemmas.Map.Text.{is_eq-slice_cmp}
-use Rattle.trace_seen.specs.declared.marks.Seen.{Seen}
-use Rattle.trace_seen.specs.declared.marks.SeenMarks.{SeenMarks}
+use Rattle.trace_seen.specs.declared.{marks.Seen.Seen, marks.SeenMarks.SeenMarks}
 use Rattle.trace_seen.specs.Marks.{seen_as, line_of, added, Adds, Ticks, TicksAt}
 use Rattle.trace_seen.proofs.Telling.{same_at}
 
--- a mark and another are told apart by their order
+-- the order distinguishes two different marks
 tells_apart : (mark q : List ℕ) → mark ≢ q → is_eq (slice_cmp nat_cmp mark q) ≡ false
 tells_apart mark q differs = is_eq-slice_cmp mark q ∙ by (bytes_eq mark q) refl
   where
@@ -28,7 +27,7 @@ adds_new mark line old new none updates = record {
   others = λ q differs. updates.2 q (tells_apart mark q differs);
 }
 
--- == a mark that is told as debited ==
+-- == a mark that is recorded as debited ==
 
 -- the lines stay, where the value of one mark is written with the line that it has
 one_line : (w x : Seen) → w.line ≡ x.line → (e : List ℕ × Seen) (es os : List (List ℕ × Seen)) (rest : Option Seen) → (b : Bool) → cond b (Some e.1) rest ≡ Some x

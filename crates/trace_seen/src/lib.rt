@@ -1,4 +1,4 @@
-//! Marks that were seen on mail: each once, with the line that has it first, and whether it is told as debited.
+//! Marks that were seen on mail: each once, with the first line that contains it, and whether it is recorded as debited.
 #![tactic(auto)]
 
 pub mod marks;

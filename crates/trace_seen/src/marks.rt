@@ -1,4 +1,4 @@
-//! Marks that were seen, and what is told of each.
+//! Marks that were seen, and what is recorded of each.
 ghost use Rattle.std.specs.Prelude.{◌≡◌, ℕ, List, [], length, IfOk, OnOk, OnErr, None, true};
 ghost use Rattle.std.specs.List.Sorted.{IsPermutation};
 ghost use Rattle.trace_seen.specs.Marks as seen;
@@ -7,16 +7,16 @@ ghost use Rattle.trace_seen.specs.Marks.{Adds, Ticks, first_line, missing_in, se
 use std::alloc::{AllocError, Global};
 use std::collections::BTreeMap;
 
-/// What is told of a mark that was seen.
+/// What is recorded of a mark that was seen.
 #[derive(Clone, Copy)]
 pub struct Seen {
-    /// The line that has it first, counted from 1.
+    /// The first line that contains it, counted from 1.
     pub line: u64,
-    /// Whether it is told as debited.
+    /// Whether it is recorded as debited.
     pub is_debited: bool,
 }
 
-/// A mark that was seen and is not told as debited, with the line that has it first.
+/// A mark that was seen and is not recorded as debited, with the first line that contains it.
 #[derive(Clone, Copy, PartialEq, Eq, PartialOrd, Ord)]
 pub struct Missing {
     pub line: u64,
@@ -54,8 +54,8 @@ impl SeenMarks {
         self.marks.len()
     }
 
-    /// Adds a mark that this line has, as one that is not debited. If it was added before it is as it was, and the answer is the line that has it first. AllocError is
-    /// lack of memory: nothing was added.
+    /// Adds a mark that this line has, as one that is not debited. If it was added before it is unchanged, and the result is the first line that
+    /// contains it. AllocError is lack of memory: nothing was added.
     pub fn add(&mut self, mark: &[u8; 64], line: u64) -> Result<Option<u64>, AllocError>
         ensures first { IfOk result (λ first. first ≡ first_line (seen_as self.old mark.now)) }
         ensures adds { OnOk result (Adds mark.now line self.old self.new) }
@@ -83,14 +83,14 @@ impl SeenMarks {
         }
     }
 
-    /// What is told of a mark; None if it was not seen.
+    /// What is recorded of a mark; None if it was not seen.
     pub fn get(&self, mark: &[u8; 64]) -> Option<Seen>
         ensures { result ≡ seen_as self.now mark.now }
     {
         self.marks.get(mark).copied()
     }
 
-    /// The marks that are not told as debited, in the order of their lines. AllocError is lack of memory.
+    /// The marks that are not recorded as debited, in the order of their lines. AllocError is lack of memory.
     pub fn missing(&self, alloc: Global) -> Result<Vec<Missing>, AllocError>
         ensures { IfOk result (λ list. IsPermutation (missing_in self.now) list.items) }
     {

@@ -1,8 +1,7 @@
 -- What is judged of a line by what is seen of the verifier is so by the ledger.
-use Rattle.std.proofs.Common.{◌≢◌, ℕ, ℤ, List, Option, Result, refl}
+use Rattle.std.proofs.Common.{ℕ, ℤ, List, Option, Result, refl}
 use Rattle.std.specs.Prelude.{IfSome}
-use Rattle.bench_base.specs.declared.words.Node.TheVariants.{Verifier}
-use Rattle.bench_base.specs.declared.events.Reply.{Reply}
+use Rattle.bench_base.specs.declared.{words.Node.TheVariants.Verifier, events.Reply.Reply}
 use Rattle.node_acts.specs.declared.asked.Asked.{Asked}
 use Rattle.node_acts.specs.Views.{View}
 use Rattle.verifier.specs.Seen.{Seen, counting, IsKnown}
@@ -21,9 +20,6 @@ by_acts today v call = (verifier_act today call v.state, refl, call_plain today 
 unreleasing : AreUnreleasing counting verifier_kind Verifier tt
 unreleasing today v call = (verifier_act today call v.state, refl, call_releases today call v.state)
 
-no_rates : (asked : Asked VerifierCall) → of_day.Verifier asked ≢ of_day.Rates
-no_rates asked is = cc
-
 pub by_ledger : (today : ℤ) (asked : Asked VerifierCall) (line : List ℕ) (v w : View Seen) (result : Result (Option (List ℕ)) Reply) → VerifierFollows counting bench_kinds IsKnown
     → IsKnown v.state → IfSome (commit_in today asked v) (λ x. IsKnown x.1) → IsByView today asked line v w result → IsByLedger today asked line v w result
-by_ledger today asked line v w result law known next judged = lifts counting verifier_kind Verifier tt by_acts of_day.Verifier no_rates AreBytes IsKnown law today asked line v w known next unreleasing result judged
+by_ledger today asked line v w result law known next judged = lifts counting verifier_kind Verifier tt by_acts of_day.Verifier (λ asked is. cc) AreBytes IsKnown law today asked line v w known next unreleasing result judged

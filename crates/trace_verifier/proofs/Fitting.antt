@@ -1,10 +1,8 @@
--- The acts of the verifier's calls: what they commit, what they may be told as, and what they print.
+-- The acts of the verifier's calls: what they commit, which replies they may get, and what they print.
 use Rattle.std.proofs.Common.{◌≡◌, ℤ, ◌<◌, false, length, refl, arith}
 use Rattle.std.specs.Prelude.{IfSome}
-use Rattle.bench_base.specs.declared.words.Node.TheVariants.{Verifier}
-use Rattle.bench_base.specs.declared.events.Reply.{Reply}
-use Rattle.node_acts.specs.declared.act.Act.{Act}
-use Rattle.node_acts.specs.declared.said.Said.{Said}
+use Rattle.bench_base.specs.declared.{words.Node.TheVariants.Verifier, events.Reply.Reply}
+use Rattle.node_acts.specs.declared.{act.Act.Act, said.Said.Said}
 use Rattle.node_acts.specs.Acts.{commit_of}
 use Rattle.node_acts.specs.Plans.{IsOfNode}
 use Rattle.node_acts.specs.Said.{IsPlain}

@@ -8,9 +8,8 @@ use Rattle.std.proofs.lemmas.List.Elements.{All-from_get_or}
 use Rattle.bench_base.specs.declared.sizes.TheConstants.{MOST_COMMITS}
 use Rattle.node_acts.specs.RowList.{row_at, row_of, commits_at, commits_in, is_worn}
 use Rattle.node_acts.specs.RowLaws.{put_here, put_other, put_counts}
-use Rattle.verifier.specs.declared.acts.Change.{Change}
+use Rattle.verifier.specs.declared.{acts.Change.Change, index.Entry.Entry}
 use Rattle.verifier.specs.declared.acts.Change.TheVariants as change
-use Rattle.verifier.specs.declared.index.Entry.{Entry}
 use Rattle.verifier.specs.ActLaws.{IsFit}
 use Rattle.verifier.specs.Rows.{Row}
 use Rattle.verifier.specs.Seen.{Seen, cell_of, row_in, row_with, counting}

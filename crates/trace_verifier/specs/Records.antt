@@ -6,9 +6,8 @@ use Rattle.bench_base.specs.Table.{IsBytes}
 use Rattle.node_acts.specs.declared.asked.Asked.{Asked}
 use Rattle.node_acts.specs.RowList.{row_at, commits_at, commits_in}
 use Rattle.node_acts.specs.Kinds.{OfCall}
-use Rattle.verifier.specs.declared.acts.Change.{Change}
+use Rattle.verifier.specs.declared.{acts.Change.Change, index.Entry.Entry}
 use Rattle.verifier.specs.declared.acts.Change.TheVariants as change
-use Rattle.verifier.specs.declared.index.Entry.{Entry}
 use Rattle.verifier.specs.Index.{IsIndexOf}
 use Rattle.verifier.specs.Rows.{Row, TrustRow, BlockRow}
 use Rattle.verifier.specs.Seen.{Seen, AreSound, scans_in}
@@ -32,7 +31,7 @@ abbrev pub row_by : Option Row → Change → Row
 row_by before (change.Trust d key) = TrustRow d key
 row_by before (change.Accept cell d b place n) = BlockRow d b (set (scans_in before) place n)
 
--- the numbers of a call, as an event brings them
+-- the numbers of a call, as an event contains them
 abbrev pub IsRanged : VerifierCall → Type 0
 IsRanged (call.Trust c) = IsDevice c.device × IsKey c.key
 IsRanged (call.Scan c) = IsCount c.number × IsBytes c.bytes

@@ -1,4 +1,4 @@
--- That a record is sound and has its index has one proof at most.
+-- There is at most one proof that a record is sound and has its index.
 use Rattle.std.proofs.Common.{ℕ, List, Option, None, Some}
 use Rattle.std.specs.Prelude.{IfSome}
 use Rattle.std.proofs.Props.{props}

@@ -24,7 +24,7 @@ fn is_known(kept: &ScanRecord)
     let _total = kept.total;
 }
 
-// By what is seen of the verifier; and its record, and that after a commit, are ones that storage can show.
+// Judges by what is seen of the verifier. Its record is one that storage can show, before and after a commit.
 fn judge_view(
     traced: &mut Traced<ScanRecord, Change>,
     day: DayNo,

@@ -41,7 +41,7 @@ fn cell_of(change: &Change) -> usize
     }
 }
 
-// Adds the block of a change whose cell was blank.
+// Adds the block of a change to a cell that was blank.
 fn index_change(index: &mut BlockIndex, change: &Change, fresh: bool)
     requires { CanIndex fresh index.old change.now }
     ensures { Indexes fresh index.old index.new change.now }
@@ -135,7 +135,7 @@ impl ScanRecord {
         }
     }
 
-    // Where a piece of a device is looked up.
+    // The place at which a piece of a device is looked up.
     fn spot(&self, device: u32, piece: u32) -> Spot
         ensures { result ≡ seen.spot_in (cells_of self.now) device piece }
     {

@@ -1,22 +1,15 @@
 -- What is judged of a line by what is seen of a node is so by the ledger, where the two follow each other: for nodes of any kind.
 use Rattle.std.proofs.Common.{◌≡◌, ◌≢◌, ◌⊎◌, inl, inr, ℕ, ℤ, ◌+◌, List, [], ◌∷◌, ◌++◌, ◌↔◌, Option, Some, None, Result, Ok, Err, IsSome, option_map, Bool, true, false, if◌then◌else◌, refl, sym, ◌∙◌, ap, subst}
 use Rattle.std.specs.Prelude.{IfSome}
-use Rattle.bench_base.specs.declared.words.Node.{Node}
-use Rattle.bench_base.specs.declared.ledger.Commit.{Commit}
-use Rattle.bench_base.specs.declared.ledger.Entry.{Entry}
+use Rattle.bench_base.specs.declared.{words.Node.Node, ledger.Commit.Commit, ledger.Entry.Entry, events.Event.Event, events.Reply.Reply}
 use Rattle.bench_base.specs.declared.ledger.Entry.TheVariants as entry
-use Rattle.bench_base.specs.declared.events.Event.{Event}
 use Rattle.bench_base.specs.declared.events.Event.TheVariants as ev
-use Rattle.bench_base.specs.declared.events.Reply.{Reply}
 use Rattle.bench_base.specs.declared.events.Reply.TheVariants as r
 use Rattle.bench_base.specs.Plans.{Plan, refuse, told}
 use Rattle.bench_base.specs.Replies.{ReplyClass, Did, Refused, Armed, CameOn, WentOff, LostPower, Faulted, WasDamaged, PrinterFailed, RatesFailed, class_of}
 use Rattle.bench_base.specs.Rules.{todays_rules}
 use Rattle.bench_base.specs.Ledger.{Ledger, torn_of, counted, IsSent, IsReleased}
-use Rattle.node_acts.specs.declared.act.Act.{Act}
-use Rattle.node_acts.specs.declared.asked.Asked.{Asked}
-use Rattle.node_acts.specs.declared.asked.Asked.TheVariants.{On, Off, Cut, Call}
-use Rattle.node_acts.specs.declared.said.Said.{Said}
+use Rattle.node_acts.specs.declared.{act.Act.Act, asked.Asked.Asked, asked.Asked.TheVariants.On, asked.Asked.TheVariants.Off, asked.Asked.TheVariants.Cut, asked.Asked.TheVariants.Call, said.Said.Said}
 use Rattle.node_acts.specs.Views.{Counting, View}
 use Rattle.node_acts.specs.Kinds.{Kind, view_in}
 use Rattle.node_acts.specs.Plans.{MayReply, Fails, after, after_told, with_commit, with_torn}
@@ -180,7 +173,7 @@ asked_releases {C = C} n kind m d acts today asked v reply = plan_releases (plan
 
 -- == an `on` alone is answered by Up ==
 
--- the plan of each call of the node is that of an act, which refuses or tells that it was done
+-- the plan of each call of the node is that of an act, which refuses or reports that it was done
 abbrev pub IsByActs : {N S X C : Type 0} → Counting S X → Kind N S C → Node → N → Type 0
 IsByActs {N} {S} {X} {C} n kind m d = (today : ℤ) (v : View S) (c : C) → (act : Act X Reply Said) × (kind.plan d today v c ≡ seen_plan n m v act) × IsPlain act
 
@@ -267,7 +260,7 @@ module _ {N S X C : Type 0} (n : Counting S X) (kind : Kind N S C) (m : Node) (d
 
   module _ (IsWhole : Asked C → Type 0) (Fits : S → Type 0) (law : FollowsAlways n kind m d bench_kinds work_of IsWhole Fits) (today : ℤ) (asked : Asked C) (line : List ℕ) (v w : View S)
       (fits : Fits v.state) (next : IfSome (commit_in n kind m d today asked v) (λ x. Fits x.1)) where
-    -- the same of any view: what is told of a line
+    -- the same of any view: what a line shows
     abbrev SoFrom : Option (List ℕ) → Option (List ℕ) → Reply → Tariff → Ledger → Event → View S → Type 0
     SoFrom sent released reply τ H e u = Fits u.state → IfSome (commit_in n kind m d today asked u) (λ x. Fits x.1) → TellsOf n m u (plan_in n kind m d today asked u) (commit_in n kind m d today asked u) line w sent reply
         → IsOnlyRelease released (after (plan_in n kind m d today asked u) reply []) → MovesSo n kind m d τ H e line w sent released reply

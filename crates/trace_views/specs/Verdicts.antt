@@ -1,9 +1,6 @@
--- What a line of the report tells of an event of one node, by the ledger.
+-- What a line of the report shows about an event of one node, by the ledger.
 use Rattle.std.specs.Prelude.{◌≡◌, ◌≢◌, ◌⊎◌, ◌↔◌, ℕ, ℤ, List, [], ◌∷◌, ◌++◌, Option, Some, None, Result, Ok, Err}
-use Rattle.bench_base.specs.declared.words.Node.{Node}
-use Rattle.bench_base.specs.declared.ledger.Commit.{Commit}
-use Rattle.bench_base.specs.declared.events.Event.{Event}
-use Rattle.bench_base.specs.declared.events.Reply.{Reply}
+use Rattle.bench_base.specs.declared.{words.Node.Node, ledger.Commit.Commit, events.Event.Event, events.Reply.Reply}
 use Rattle.bench_base.specs.Plans.{Plan}
 use Rattle.bench_base.specs.Rules.{todays_rules, editions}
 use Rattle.bench_base.specs.Ledger.{Ledger, day_in, IsSent, IsReleased}
@@ -29,7 +26,7 @@ abbrev pub listed : Option (List ℕ) → List (List ℕ)
 listed None = []
 listed (Some bytes) = bytes ∷ []
 
--- the ledger behind an event that got this reply, where nothing is read as rates
+-- the ledger after an event that got this reply, if nothing is read as rates
 abbrev pub behind : Tariff → Ledger → Event → Reply → Ledger
 behind τ H e reply = entries τ todays_rules H e [] reply
 
@@ -48,8 +45,8 @@ module _ {N S X C : Type 0} (n : Counting S X) (kind : Kind N S C) (m : Node) (d
   commit_in today asked v = node_commit (kind.commit d today v) asked
 
   module _ (τ : Tariff) (H : Ledger) (e : Event) (line : List ℕ) where
-    -- The line is that of this reply, which the event may get at this ledger: the node is seen so at the ledger that it leaves, all
-    -- otherwise is as it was except for what was sent, and any other reply that the event may get with that line leaves the same ledger.
+    -- The line is that of this reply, which the event may get at this ledger, and the node is seen so at the ledger that it leaves. Everything
+    -- except what was sent is otherwise as it was. Any other reply that the event may get with that line leaves the same ledger.
     pub record MovesSo (w : View S) (sent released : Option (List ℕ)) (reply : Reply) : Type 0 where
       pub text : text_of reply ≡ line
       pub whole : IsWholeReply reply
@@ -67,7 +64,7 @@ module _ {N S X C : Type 0} (n : Counting S X) (kind : Kind N S C) (m : Node) (d
       pub never : (reply : Reply) → Moves τ todays_rules H e [] reply → text_of reply ≢ line
       pub rests : w ≡ view_in m (kind.seen d) H
 
-  -- P holds at each history at which the node is seen so, for each event that asks this of it on this day and brings nothing forged
+  -- P holds at each history that shows the node so, for each event that asks this of it on this day and contains nothing forged
   abbrev pub ByLedger : (Asked C → OfDay) → (Asked C → Type 0) → ℤ → Asked C → View S → (Tariff → Ledger → Event → Type 0) → Type 0
   ByLedger work_of IsWhole today asked v P = (τ : Tariff) (H : Ledger) (e : Event) → History τ editions H → Unforged e H
       → day_in H ≡ Some today → IsWholeEvent e
@@ -83,7 +80,7 @@ module _ {N S X C : Type 0} (n : Counting S X) (kind : Kind N S C) (m : Node) (d
   MovesBy τ H e line w (Ok sent) = (reply : Reply) × MovesSo τ H e line w sent None reply
   MovesBy τ H e line w (Err due) = MovesNever τ H e line w due
 
-  -- At each history at which the node is seen so, and for each event that asks this of it on this day and brings nothing forged, the
-  -- judgement of the line is that of the ledger.
+  -- The judgement of the line is that of the ledger, at each history that shows the node so. This holds for each event that asks this of it on this
+  -- day and contains nothing forged.
   abbrev pub IsByLedger : (Asked C → OfDay) → (Asked C → Type 0) → ℤ → Asked C → List ℕ → View S → View S → Result (Option (List ℕ)) Reply → Type 0
   IsByLedger work_of IsWhole today asked line v w result = ByLedger work_of IsWhole today asked v (λ τ H e. MovesBy τ H e line w result)

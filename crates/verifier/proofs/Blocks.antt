@@ -4,9 +4,7 @@ use Rattle.std.specs.Prelude.{◌==◌, ◌&&◌, is_some, IsSome, unwrap_or, if
 use Rattle.std.proofs.lemmas.Bool.{cases_Bool, cases_eq, eqb-true, eq-eqb, ne_eqb, and_parts}
 use Rattle.std.proofs.lemmas.List.{get_or-replicate, length-replicate, get_or-set_same, get_or-set_other, length-set}
 use Rattle.std.proofs.lemmas.Option.{same_Some}
-use Rattle.bench_base.specs.declared.sizes.TheConstants.{BLOCK_PIECES}
-use Rattle.bench_base.specs.declared.ledger.Commit.{Commit}
-use Rattle.bench_base.specs.declared.ledger.Commit.TheVariants.{Trusted, Accepted}
+use Rattle.bench_base.specs.declared.{sizes.TheConstants.BLOCK_PIECES, ledger.Commit.Commit, ledger.Commit.TheVariants.Trusted, ledger.Commit.TheVariants.Accepted}
 use Rattle.bench_base.specs.Cells.{OfTrust, OfBlock, commits_at}
 use Rattle.bench_base.specs.Rows.{first_of}
 use Rattle.bench_base.specs.Scans.{trusted, accepted, block_of, block_place, with_block, blocks}
@@ -32,7 +30,7 @@ own_block d b = rw (eq-eqb d d refl, eq-eqb b b refl) refl
 
 -- == places ==
 
--- what stands at the head of a list is the newest
+-- the head of a list is the newest
 newest : (x : ℕ × ℕ) (xs : List (ℕ × ℕ)) → block_at (length xs) (x ∷ xs) ≡ Some x
 newest x xs = ap (λ t. if t then Some x else block_at (length xs) xs) (eq-eqb (length xs) (length xs) refl)
 
@@ -53,7 +51,7 @@ within_all (x ∷ xs) i lt = elim (cases_eq i (length xs)) [
   | inr differs ↦ ap is_some (older_at x xs i differs) ∙ within_all xs i (omega (arith, differs))
 ]
 
--- a block that has a place stands there
+-- a block that has a place is found there
 pub place_at : (xs : List (ℕ × ℕ)) (d b i : ℕ) → block_place d b xs ≡ Some i → (i < length xs) × (block_at i xs ≡ Some (d, b))
 place_at [] d b i is = absurd (some_none (sym is))
 place_at (x ∷ xs) d b i is = elim (cases_Bool (same_block x d b)) [

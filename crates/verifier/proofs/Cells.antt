@@ -1,4 +1,4 @@
--- What the cells of the verifier tell: keys, blocks, and the next cell.
+-- What the cells of the verifier hold: keys, blocks, and the next cell.
 use Rattle.std.proofs.Common.{◌≡◌, inl, inr, ℕ, ◌+◌, ◌-◌, ◌<◌, ◌≤◌, length, get_or, drop, Option, Some, None, true, false, refl, sym, ap, subst, ◌∙◌, arith, true≢false}
 use Rattle.std.specs.Prelude.{◌==◌, is_some, IsSome, IfSome, if◌then◌else◌}
 use Rattle.std.proofs.lemmas.Bool.{cases_eq, cases_lt, eqb-true, eq-eqb, ne_eqb, and_parts}
@@ -87,7 +87,7 @@ module _ (s : Seen) (sound : AreSound s) where
   block_from k (Some (TrustRow e key)) x fits is = absurd (no_pair x.0 x.1 is)
   block_from k (Some (BlockRow e n scans)) x fits is = fits.place
 
-  -- blocks lie behind the keys
+  -- blocks lie after the keys
   pub blocks_begin : (k d b : ℕ) → block_in (row_in s k) ≡ Some (d, b) → FIRST_BLOCK ≤ k
   blocks_begin k d b is = block_from k (row_in s k) (d, b) (sound.each k) is
 

@@ -104,7 +104,7 @@ pub record CanAccept (s : Seen) (cell d b : ℕ) : Type 0 where
   pub inside : cell < VERIFIER_CELLS
   pub trusted : IsSome (key_at s d)
   pub number : b ≤ LAST_BLOCK
-  -- it has no key, its block stands behind others, and is in no other cell
+  -- it has no key, its block follows others, and is in no other cell
   pub keyless : key_in (row_in s cell) ≡ None
   pub packed : (k : ℕ) → FIRST_BLOCK ≤ k → k + 1 ≡ cell → IsSome (row_at s k)
   pub own : (e c : ℕ) → block_in (row_in s cell) ≡ Some (e, c) → (e ≡ d) × (c ≡ b)

@@ -51,7 +51,7 @@ not_found (e ∷ es) d b none k lt = elim (cases_Bool (is_of d b e)) [
 
 -- == one entry more ==
 
--- it stands in this place, and those behind it one further
+-- it is in this place, and those from there on are one further
 pub record IsPut (es new : List Entry) (place : ℕ) (e : Entry) : Type 0 where
   pub long : length new ≡ length es + 1
   pub inside : place ≤ length es
@@ -59,7 +59,7 @@ pub record IsPut (es new : List Entry) (place : ℕ) (e : Entry) : Type 0 where
   pub here : get_or new place nothing ≡ e
   pub above : (k : ℕ) → place ≤ k → k < length es → get_or new (k + 1) nothing ≡ get_or es k nothing
 
--- an array of which the first entries count, once those behind the place are copied one further and the entry is written
+-- the first entries of an array count; those from the place on are copied one further, and then the entry is written
 pub copied_put : (xs ys : List Entry) (len place : ℕ) (e : Entry) → len < length xs → place ≤ len → length ys ≡ length xs → CopiedTo xs ys place (place + 1) (len - place) → SameBelow xs ys (place + 1)
     → IsPut (take len xs) (take (len + 1) (set ys place e)) place e
 copied_put xs ys len place e room inside long copied same = record {
@@ -198,7 +198,7 @@ module _ (es : List Entry) (d b place : ℕ) where
   pub none_past : length es ≤ place → ((k : ℕ) → k < place → rank_of (get_or es k nothing) < rank d b) → cell_in es d b ≡ None
   none_past past before = none_in es d b (λ k lt. not_less d b (get_or es k nothing) (before k (omega arith)))
 
--- where a block is not among the entries, those behind its place come after it
+-- if a block is not among the entries, those from its place on come after it
 pub fresh_behind : (es : List Entry) (place : ℕ) (e : Entry) → AreOrdered es → cell_in es e.device e.block ≡ None → e.device < 2 ^ 32
     → ((k : ℕ) → place ≤ k → k < length es → rank e.device e.block ≤ rank_of (get_or es k nothing)) → (k : ℕ) → place ≤ k → k < length es → rank_of e < rank_of (get_or es k nothing)
 fresh_behind es place e ordered none small behind k le lt = elim (cases_eq (rank_of e) (rank_of (get_or es k nothing))) [

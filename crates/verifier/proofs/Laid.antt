@@ -58,7 +58,7 @@ pub zero_scans : (n m : ℕ) → m ≡ 8 + 4 * n → listed n (λ j. word_at (2 
 zero_scans n m long =
     listed_is n (λ j. word_at (2 + j) (replicate m 0)) 0 (replicate n 0) (length-replicate n 0) (λ k lt. get_or-replicate n k 0 0 lt ∙ sym (zero_word (2 + k) m (omega arith)))
 
--- what is behind device and number are the scans
+-- the scans follow device and number
 pub scans_behind : (n : ℕ) (payload : List ℕ) → length payload ≡ 8 + 4 * n → IsBytes payload → words (listed n (λ j. word_at (2 + j) payload)) ≡ drop 8 payload
 scans_behind n payload long h =
     ap words (listed_same n (λ j. word_at (2 + j) payload) (λ j. word_at j (drop 8 payload)) (λ j lt. ap (λ i. word_at i payload) (two j) ∙ word_next (suc j) payload ∙ word_next j (drop 4 payload) ∙ ap (word_at j) (drop-drop 4 4 payload)))
@@ -107,7 +107,7 @@ scans_written n d b scans long small =
     two : (j : ℕ) → 2 + j ≡ suc (suc j)
     two j = omega arith
 
--- == the key of a device, with any number of zeros behind it ==
+-- == the key of a device, with any number of zeros after it ==
 
 key_laid : (m : ℕ) (d : ℕ) (key : List ℕ) → length key ≡ 32 → take 32 (drop 4 (spelled Four d ++ (key ++ replicate m 0))) ≡ key
 key_laid m d key long =

@@ -3,12 +3,8 @@ use Rattle.std.proofs.Common.{◌≡◌, ℕ, ℤ, zero, suc, ◌+◌, ◌-◌, 
 use Rattle.std.specs.Prelude.{Result, ◌==◌, is_some, IsSome, IfSome, All, nat_le, if◌then◌else◌, nat_lt}
 use Rattle.std.proofs.lemmas.Bool.Decides.{nat_tests}
 use Rattle.std.proofs.lemmas.List.Elements.{All-head, All-tail}
-use Rattle.bench_base.specs.declared.sizes.TheConstants.{VERIFIER_CELLS, FIRST_BLOCK, BLOCK_PIECES}
-use Rattle.bench_base.specs.declared.words.Node.TheVariants.{Verifier}
-use Rattle.bench_base.specs.declared.ledger.Commit.{Commit}
+use Rattle.bench_base.specs.declared.{sizes.TheConstants.VERIFIER_CELLS, sizes.TheConstants.FIRST_BLOCK, sizes.TheConstants.BLOCK_PIECES, words.Node.TheVariants.Verifier, ledger.Commit.Commit, refusals.MarkFault.MarkFault, refusals.ScanRefusal.ScanRefusal}
 use Rattle.bench_base.specs.declared.ledger.Commit.TheVariants as c
-use Rattle.bench_base.specs.declared.refusals.MarkFault.{MarkFault}
-use Rattle.bench_base.specs.declared.refusals.ScanRefusal.{ScanRefusal}
 use Rattle.bench_base.specs.declared.refusals.ScanRefusal.TheVariants as no
 use Rattle.bench_base.specs.Cells.{OfTrust, OfBlock}
 use Rattle.bench_base.specs.Cells as cells
@@ -117,7 +113,7 @@ leaves s sound = record {
 
 -- == the rows of commits ==
 
--- at the start there are none
+-- at the start each cell is blank
 pub no_cell : (k : ℕ) → cell_after k [] ≡ None
 no_cell k = by (nat_lt k FIRST_BLOCK)
   where

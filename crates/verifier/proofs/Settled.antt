@@ -1,4 +1,4 @@
--- Entries of cells that were brought in order: the blocks that are found among them, and two cells of one block.
+-- Entries of cells that were sorted: the blocks that are found among them, and two cells of one block.
 use Rattle.std.proofs.Common.{◌≡◌, inl, inr, ℕ, zero, suc, [], ◌∷◌, ◌+◌, ◌-◌, ◌<◌, ◌≤◌, ◌^◌, List, length, get_or, set, take, Some, Bool, true, false, All, Contains, sum_by, IsPermutation, refl, sym, ap, subst, ◌∙◌, arith}
 use Rattle.std.specs.Prelude.{◌==◌, if◌then◌else◌}
 use Rattle.std.specs.List.Sorted.{IsNonDecreasingBy}

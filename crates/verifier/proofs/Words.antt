@@ -13,7 +13,7 @@ pub length_words : (ns : List ℕ) → length (words ns) ≡ 4 * length ns
 length_words [] = refl
 length_words (n ∷ ns) = omega (arith, length-append (spelled Four n) (words ns), length_spelled Four n, length_words ns)
 
--- the numbers behind the first
+-- the numbers after the first
 behind : (k : ℕ) (n : ℕ) (ns : List ℕ) → drop (4 + k) (words (n ∷ ns)) ≡ drop k (words ns)
 behind k n ns = sym (drop-drop k 4 (words (n ∷ ns))) ∙ ap (drop k) (drop_at (spelled Four n) (words ns) 4 (length_spelled Four n))
 

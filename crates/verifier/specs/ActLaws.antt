@@ -1,8 +1,6 @@
 -- What holds of the acts of the verifier: they leave sound rows, and are by the rows of some commits what they are by these.
 use Rattle.std.specs.Prelude.{◌≡◌, ℕ, ℤ, ◌<◌, false, List, [], ◌∷◌, Some, None}
-use Rattle.bench_base.specs.declared.sizes.TheConstants.{VERIFIER_CELLS, BLOCK_PIECES}
-use Rattle.bench_base.specs.declared.words.Node.TheVariants.{Verifier}
-use Rattle.bench_base.specs.declared.ledger.Commit.{Commit}
+use Rattle.bench_base.specs.declared.{sizes.TheConstants.VERIFIER_CELLS, sizes.TheConstants.BLOCK_PIECES, words.Node.TheVariants.Verifier, ledger.Commit.Commit}
 use Rattle.bench_base.specs.Cells.{place_of}
 use Rattle.bench_base.specs.Cells as cells
 use Rattle.bench_base.specs.Ledger.{count_of}

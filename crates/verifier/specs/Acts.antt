@@ -1,20 +1,15 @@
 -- What each call of the verifier does, by what it looks up: in its rows, or in a list of commits. Days are since 1970-01-01.
 use Rattle.std.specs.Prelude.{ℕ, ℤ, ◌%◌, Bool, true, false, List, Option, Some, None, Result, Ok, Err, is_some, nat_le, if◌then◌else◌}
-use Rattle.bench_base.specs.declared.sizes.TheConstants.{VERIFIER_CELLS, BLOCK_PIECES}
-use Rattle.bench_base.specs.declared.refusals.MarkFault.{MarkFault}
-use Rattle.bench_base.specs.declared.refusals.ScanRefusal.{ScanRefusal}
+use Rattle.bench_base.specs.declared.{sizes.TheConstants.VERIFIER_CELLS, sizes.TheConstants.BLOCK_PIECES, refusals.MarkFault.MarkFault, refusals.ScanRefusal.ScanRefusal}
 use Rattle.bench_base.specs.declared.refusals.ScanRefusal.TheVariants as no
 use Rattle.bench_base.specs.declared.ledger.Commit.TheVariants as c
 use Rattle.bench_base.specs.Scans.{block_of}
-use Rattle.node_acts.specs.declared.act.Act.{Act}
-use Rattle.node_acts.specs.declared.act.Act.TheVariants.{Refuse, Tell, Commits}
+use Rattle.node_acts.specs.declared.{act.Act.Act, act.Act.TheVariants.Refuse, act.Act.TheVariants.Tell, act.Act.TheVariants.Commits}
 use Rattle.indicium.specs.declared.Mark.{Mark}
 use Rattle.indicium.specs.Marks.{read_mark}
 use Rattle.psd_wire.specs.Codes.{has_code}
-use Rattle.verifier.specs.declared.acts.Accepted.{Accepted}
-use Rattle.verifier.specs.declared.acts.Change.{Change}
+use Rattle.verifier.specs.declared.{acts.Accepted.Accepted, acts.Change.Change, acts.Spot.Spot}
 use Rattle.verifier.specs.declared.acts.Change.TheVariants as change
-use Rattle.verifier.specs.declared.acts.Spot.{Spot}
 use Rattle.verifier.specs.Answers.{scan_answer}
 use Rattle.verifier.specs.Seen.{Seen, key_at, spot_in}
 
@@ -54,7 +49,8 @@ told k again = record { device = k.device; piece = k.piece; again = again }
 abbrev pub answered_act : ℕ → Mark → ℕ → Result Bool ScanRefusal → ScanAct Accepted
 answered_act n k cell (Err x) = Refuse x
 answered_act n k cell (Ok true) = Tell (told k true)
-answered_act n k cell (Ok false) = Commits (c.Accepted k.device k.piece n) (change.Accept cell k.device (block_of k.piece) (k.piece % BLOCK_PIECES) n) (told k false)
+answered_act n k cell (Ok false) = Commits (c.Accepted k.device k.piece n) (change.Accept cell k.device (block_of k.piece) (k.piece % BLOCK_PIECES) n)
+    (told k false)
 
 -- where the next cell lies beyond the last, all blocks are in use
 abbrev pub spot_act : ℕ → Mark → ℤ → Spot → ScanAct Accepted

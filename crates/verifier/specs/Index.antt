@@ -16,7 +16,7 @@ cell_in (e ∷ es) d b = if is_of d b e then Some e.cell else cell_in es d b
 abbrev pub with_cell : ℕ → ℕ → ℕ → List Entry → ℕ → ℕ → Option ℕ
 with_cell e n cell es d b = if (e == d) && (n == b) then Some cell else cell_in es d b
 
--- where number and device of a block stand in their order; the device has 32 bits
+-- the rank of a block in the order by number, then device; the device has 32 bits
 abbrev pub rank : ℕ → ℕ → ℕ
 rank d b = b * 2 ^ 32 + d
 

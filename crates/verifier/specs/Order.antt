@@ -1,7 +1,6 @@
--- The order in which the verifier's commits come, the newest first.
+-- The order of the verifier's commits, the newest first.
 use Rattle.std.specs.Prelude.{◌≡◌, ◌≤◌, List, [], ◌∷◌, length, None, IsSome}
-use Rattle.bench_base.specs.declared.ledger.Commit.{Commit}
-use Rattle.bench_base.specs.declared.ledger.Commit.TheVariants.{Trusted, Accepted}
+use Rattle.bench_base.specs.declared.{ledger.Commit.Commit, ledger.Commit.TheVariants.Trusted, ledger.Commit.TheVariants.Accepted}
 use Rattle.bench_base.specs.Scans.{trusted, accepted, blocks}
 
 -- a device is trusted once, and before its pieces are accepted; a piece is accepted once

@@ -35,7 +35,7 @@ pub record IsPayloadOf (k : ℕ) (x : Row) (payload : List ℕ) : Type 0 where
   pub place : IsIn k x
   pub row : RowReadsAs x payload
 
--- == what stands in a payload ==
+-- == what a payload holds ==
 
 -- the i-th number of four bytes
 unfoldable pub word_at : ℕ → List ℕ → ℕ

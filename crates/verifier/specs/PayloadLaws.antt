@@ -1,4 +1,4 @@
--- How rows are told by their payloads.
+-- Payloads determine their rows.
 use Rattle.std.specs.Prelude.{◌≡◌, ℕ, List, length}
 use Rattle.bench_base.specs.declared.sizes.TheConstants.{BLOCK_BYTES}
 use Rattle.verifier.specs.Rows.{Row, IsSoundRow}

@@ -1,20 +1,15 @@
 -- How each call of the verifier is reported, and what the ledger plans for it: its act, by what is looked up in the commits, the newest first.
 use Rattle.std.specs.Prelude.{ℕ, ℤ, ◌+◌, List, length, Option, unwrap_or}
-use Rattle.bench_base.specs.declared.sizes.TheConstants.{FIRST_BLOCK}
-use Rattle.bench_base.specs.declared.ledger.Commit.{Commit}
-use Rattle.bench_base.specs.declared.events.Reply.{Reply}
+use Rattle.bench_base.specs.declared.{sizes.TheConstants.FIRST_BLOCK, ledger.Commit.Commit, events.Reply.Reply}
 use Rattle.bench_base.specs.declared.events.Reply.TheVariants as r
 use Rattle.bench_base.specs.Plans.{Plan}
 use Rattle.bench_base.specs.Scans.{trusted, accepted, block_of, block_place, blocks}
-use Rattle.node_acts.specs.declared.act.Act.{Act}
-use Rattle.node_acts.specs.declared.said.Said.{Said}
+use Rattle.node_acts.specs.declared.{act.Act.Act, said.Said.Said}
 use Rattle.node_acts.specs.Said.{replies, saying, said_plan}
-use Rattle.verifier.specs.declared.acts.Accepted.{Accepted}
-use Rattle.verifier.specs.declared.acts.Change.{Change}
-use Rattle.verifier.specs.declared.acts.Spot.{Spot}
+use Rattle.verifier.specs.declared.{acts.Accepted.Accepted, acts.Change.Change, acts.Spot.Spot}
 use Rattle.verifier.specs.Acts.{ScanAct, LookUps, trust_by, scan_by}
 
--- == what is told ==
+-- == what is reported ==
 
 -- an act, by how it says what it answers
 abbrev pub says : {A : Type 0} → (A → Said) → ScanAct A → Act Change Reply Said

@@ -1,7 +1,6 @@
 -- The rows of the verifier after a list of commits, the newest first, each in its cell.
 use Rattle.std.specs.Prelude.{ℕ, ◌+◌, ◌-◌, ◌*◌, List, [], ◌∷◌, length, All, Option, Some, None, option_map, unwrap_or, nat_lt, ◌==◌, if◌then◌else◌}
-use Rattle.bench_base.specs.declared.sizes.TheConstants.{VERIFIER_CELLS, FIRST_BLOCK, BLOCK_PIECES}
-use Rattle.bench_base.specs.declared.ledger.Commit.{Commit}
+use Rattle.bench_base.specs.declared.{sizes.TheConstants.VERIFIER_CELLS, sizes.TheConstants.FIRST_BLOCK, sizes.TheConstants.BLOCK_PIECES, ledger.Commit.Commit}
 use Rattle.bench_base.specs.Cells.{OfTrust, OfBlock, commits_at}
 use Rattle.bench_base.specs.Ranges.{InRange}
 use Rattle.bench_base.specs.Scans.{trusted, accepted, blocks}
@@ -10,7 +9,7 @@ use Rattle.verifier.specs.Order.{InOrder, IsRoomy}
 use Rattle.verifier.specs.Rows.{Row, TrustRow, BlockRow}
 use Rattle.verifier.specs.Seen.{Seen}
 
--- the block in a place of a list of them whose newest comes first, counted from the oldest
+-- the block in a place of a list of blocks, the newest first; places are counted from the oldest
 abbrev pub block_at : ℕ → List (ℕ × ℕ) → Option (ℕ × ℕ)
 block_at i [] = None
 block_at i (x ∷ xs) = if length xs == i then Some x else block_at i xs

@@ -6,9 +6,8 @@ use Rattle.bench_base.specs.declared.sizes.TheConstants.{MOST_COMMITS, VERIFIER_
 use Rattle.bench_base.specs.Scans.{block_of}
 use Rattle.node_acts.specs.Views.{Counting}
 use Rattle.node_acts.specs.RowList.{RowList, row_at, row_of, commits_at, commits_in, is_worn, put}
-use Rattle.verifier.specs.declared.acts.Change.{Change}
+use Rattle.verifier.specs.declared.{acts.Change.Change, acts.Spot.Spot}
 use Rattle.verifier.specs.declared.acts.Change.TheVariants as change
-use Rattle.verifier.specs.declared.acts.Spot.{Spot}
 use Rattle.verifier.specs.Payload.{no_scans}
 use Rattle.verifier.specs.Rows.{Row, TrustRow, BlockRow, IsIn, IsSoundRow}
 
@@ -40,7 +39,7 @@ holds d b None = false
 holds d b (Some (TrustRow e key)) = false
 holds d b (Some (BlockRow e n scans)) = (e == d) && (n == b)
 
--- == what the rows tell ==
+-- == what the rows show ==
 
 -- the row of a cell
 abbrev pub row_in : Seen → ℕ → Option Row

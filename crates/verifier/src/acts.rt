@@ -101,12 +101,12 @@ fn spot_act(number: u32, device: DevNo, mark: &Mark, today: DayNo, spot: Spot) -
     }
 }
 
-/// Scans the bytes of a mark under this number. `key` is that of the mark's device made ready, where it is trusted, and
-/// `spot` where its piece is looked up.
+/// Scans the bytes of a mark under this number. `key` is the key of the mark's device made ready, if the device is trusted, and
+/// `spot` says where the mark's piece is looked up.
 ///
-/// The first refusal that holds: `Unknown`, with its number, if and only if the device is not trusted; `BadCode` exactly
-/// where the code does not match under the key; those of `scan`. A piece that was accepted before under the same number
-/// is told without a commit.
+/// The first refusal that holds is returned. `Unknown`, with the device's number, if and only if the device is not trusted;
+/// then `BadCode` if and only if the MAC does not match under the key; then those of `scan`. A piece that was accepted before
+/// under the same number is reported without a commit.
 pub fn scan_act(
     number: u32,
     bytes: &[u8],

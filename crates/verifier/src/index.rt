@@ -22,7 +22,7 @@ pub struct Entry {
 }
 
 /// At most 1,024 blocks, in the order of their numbers and devices, so that no call walks them. Pieces come about in the order of their numbers, so a new
-/// block mostly stands behind the others.
+/// block mostly goes after the others.
 #[derive(Drop)]
 pub struct BlockIndex {
     entries: [Entry; MOST_BLOCKS],
@@ -56,7 +56,7 @@ fn is_of(entry: &Entry, device: u32, block: u32) -> bool
     entry.device == device && entry.block == block
 }
 
-// Where the block of the entry stands in the order.
+// The rank of the entry's block in the order.
 fn entry_rank(entry: &Entry) -> u64
     ensures { result ≡ rank_of entry.now }
 {

@@ -4,10 +4,10 @@ ghost use Rattle.verifier.specs.PayloadLaws.{PayloadLaws};
 
 /// What the verifier's calls do by its rows:
 ///
-/// - `sound`: where a call commits, it is a commit of the verifier, and the rows with its change are sound, also together;
-/// - `follows`: after the rows of some commits come those of these commits and that one; and the rows of commits are sound,
-///   and have as many commits as the verifier;
-/// - `planned`: what a call does by the rows of some commits is what it does by these, off which the ledger's plan is read.
+/// - `sound`. If a call commits, it is a commit of the verifier, and the rows with its change are sound, also together.
+/// - `follows`. After the rows of some commits come those of these commits and that one. The rows of commits are sound, and
+///   have as many commits as the verifier.
+/// - `planned`. What a call does by the rows of some commits is what it does by these, and the ledger's plan is read off these.
 pub fn acts_follow_the_commits()
     ensures sound { ActsLeaveSound }
     ensures follows { ActsFollow }

@@ -26,7 +26,7 @@ pub fn trust_payload(device: DevNo, key: &Key) -> [u8; BLOCK_BYTES]
     bytes
 }
 
-/// The key that stands in the payload of a trusted device.
+/// The key in the payload of a trusted device.
 pub fn key_in(payload: &[u8; BLOCK_BYTES]) -> Key
     ensures { result ≡ key_of payload.now }
 {
@@ -56,7 +56,7 @@ pub fn read_block(payload: &[u8; BLOCK_BYTES]) -> Option<(u32, u32)>
     Some((device, number))
 }
 
-/// Device and number that stand in the payload of a block.
+/// Device and number in the payload of a block.
 #[tactic(auto, unfolding(crate::specs::Payload::word_at, bench_base::specs::Table::number))]
 pub fn block_in(payload: &[u8; BLOCK_BYTES]) -> (u32, u32)
     ensures device { result.0 ≡ word_at 0 payload.now }

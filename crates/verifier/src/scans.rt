@@ -8,12 +8,12 @@ use bench_base::refusals::ScanRefusal;
 /// How many days after its own a mark is good.
 const LIFE: i64 = 30;
 
-/// Whether a piece whose mark is of this day was accepted before under the same scan number; if not, it is to be
-/// accepted now. `accepted` is the scan under which it was accepted first, and `full` tells that all blocks are in use
-/// and none holds it.
+/// Whether a piece with a mark of this day was accepted before under the same scan number. If not, it is to be accepted
+/// now. `accepted` is the scan under which it was accepted first, and `full` says that all blocks are in use and none
+/// holds it.
 ///
-/// The first refusal that holds: `Duplicate` where it was accepted under another number, `Future` and `TooOld` by the
-/// mark's day, `BlocksFull`.
+/// The first refusal that holds is returned. `Duplicate` if the piece was accepted under another number, then `Future` and
+/// `TooOld` by the mark's day, then `BlocksFull`.
 pub fn scan(
     number: u32,
     day: i32,

@@ -18,7 +18,7 @@ use Rattle.verifier.proofs.Cells.{shown_none}
 use Rattle.verifier_node.specs.Payloads.{rows_held, seen_held, HoldRows}
 use Rattle.verifier_node.specs.Held.{held_long, held_each}
 use Rattle.verifier_node.specs.Table.{verifier_table}
-use Rattle.verifier_node.specs.declared.kept.VerifierRows.{VerifierRows}
+use Rattle.verifier_node.specs.declared.rows.VerifierRows.{VerifierRows}
 use Rattle.row_node.specs.Boots as none_held
 use Rattle.row_node.specs.Boots.{Found}
 use Rattle.verifier_node.specs.Boots.{AreRead, block_spelled, block_held, AreListed, IsIndexed, AreBlank, HasGap, Breaks, AreJoined, HoldNone, HoldSound}

@@ -8,9 +8,8 @@ use Rattle.bench_base.specs.declared.sizes.TheConstants.{VERIFIER_CELLS, FIRST_B
 use Rattle.bench_base.proofs.Facts.{some_none}
 use Rattle.node_acts.specs.RowList.{row_at, row_of}
 use Rattle.node_acts.specs.RowLaws.{put_here, put_other}
-use Rattle.verifier.specs.declared.acts.Change.{Change}
+use Rattle.verifier.specs.declared.{acts.Change.Change, index.Entry.Entry}
 use Rattle.verifier.specs.declared.acts.Change.TheVariants as change
-use Rattle.verifier.specs.declared.index.Entry.{Entry}
 use Rattle.verifier.specs.ActLaws.{IsFit}
 use Rattle.verifier.specs.Index.{cell_in, with_cell, IsIndexOf}
 use Rattle.verifier.specs.Rows.{Row, TrustRow, BlockRow}

@@ -20,7 +20,7 @@ use Rattle.verifier_node.specs.Payloads.{rows_held, seen_held}
 use Rattle.verifier_node.specs.Held.{held_sound}
 use Rattle.verifier_node.specs.Indexes.{CanIndex, Indexes}
 use Rattle.verifier_node.specs.Table.{verifier_table}
-use Rattle.verifier_node.specs.declared.kept.VerifierRows.{VerifierRows}
+use Rattle.verifier_node.specs.declared.rows.VerifierRows.{VerifierRows}
 use Rattle.verifier_node.proofs.Indexing.{own_place, can_index, index_after}
 use Rattle.verifier_node.proofs.Reading.{seen_some}
 

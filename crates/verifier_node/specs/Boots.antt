@@ -24,7 +24,7 @@ HasForeign held = HoldsForeign VERIFIER_CELLS IsPayloadOf held
 abbrev pub AreRead : (ℕ → Option Held) → Type 0
 AreRead held = (k : ℕ) → k < VERIFIER_CELLS → CellRead held k
 
--- device and number of the block that a payload spells; 0 and 0 if there is none
+-- device and number of the block that a payload spells; 0 and 0 if there is no payload
 abbrev pub block_spelled : Option (List ℕ) → ℕ × ℕ
 block_spelled None = (0, 0)
 block_spelled (Some payload) = (word_at 0 payload, word_at 1 payload)
@@ -33,13 +33,13 @@ block_spelled (Some payload) = (word_at 0 payload, word_at 1 payload)
 abbrev pub block_held : (ℕ → Option Held) → ℕ → ℕ × ℕ
 block_held held k = block_spelled (payload_of (held k))
 
--- each cell of blocks before n holds a block, whose device is trusted
+-- each cell of blocks before n holds a block of a trusted device
 pub record AreListed (held : ℕ → Option Held) (n : ℕ) : Type 0 where
   pub from : FIRST_BLOCK ≤ n
   pub blocks : (k : ℕ) → FIRST_BLOCK ≤ k → k < n → block_in (row_in (seen_held held) k) ≡ Some (block_held held k)
   pub trusted : (k : ℕ) → FIRST_BLOCK ≤ k → k < n → IsSome (key_at (seen_held held) (block_held held k).0)
 
--- the index has the blocks of the cells before n, which have no gap, and whose devices are trusted
+-- the index has the blocks of the cells before n, which have no gap; their devices are trusted
 pub record IsIndexed (s : Seen) (es : List Entry) (n : ℕ) : Type 0 where
   pub many : FIRST_BLOCK + length es ≡ n
   pub found : (k d b : ℕ) → k < n → block_in (row_in s k) ≡ Some (d, b) → cell_in es d b ≡ Some k
@@ -72,7 +72,7 @@ pub record AreJoined (held : ℕ → Option Held) (es : List Entry) : Type 0 whe
 abbrev pub HoldNone : (ℕ → Option Held) → Type 0
 HoldNone held = HasForeign held ⊎ (HoldRows held × Breaks held)
 
--- the cells hold sound rows, whose index this is
+-- the cells hold sound rows, and this is their index
 pub record HoldSound (held : ℕ → Option Held) (es : List Entry) : Type 0 where
   pub read : AreRead held
   pub joined : AreJoined held es

@@ -25,7 +25,8 @@ filled_row k (Some x) (Some h) filled = record { place = filled.place; sound = f
 pub held_each : (held : ℕ → Option Held) → HoldRows held → (k : ℕ) → IfSome (row_in (seen_held held) k) (IsRowAt k)
 held_each held filled k = elim (cases_lt k VERIFIER_CELLS) [
   | inl lt ↦ subst (λ (o : Option Row). IfSome o (IsRowAt k)) (sym (held_row held filled k lt)) (filled_row k (rows_held held k) (held k) (filled k lt))
-  | inr past ↦ subst (λ (o : Option (ℕ × Row)). IfSome (row_of o) (IsRowAt k)) (sym (get_or_past (seen_held held) k None (omega (arith, past, held_long held)))) tt
+  | inr past ↦ subst (λ (o : Option (ℕ × Row)). IfSome (row_of o) (IsRowAt k))
+      (sym (get_or_past (seen_held held) k None (omega (arith, past, held_long held)))) tt
 ]
 
 -- they are sound where they meet the conditions that join them

@@ -1,9 +1,8 @@
 -- What a change makes of the index of blocks.
 use Rattle.std.specs.Prelude.{◌≡◌, ℕ, ◌+◌, ◌<◌, Bool, true, false, List, length, None}
 use Rattle.bench_base.specs.declared.sizes.TheConstants.{MOST_BLOCKS}
-use Rattle.verifier.specs.declared.acts.Change.{Change}
+use Rattle.verifier.specs.declared.{acts.Change.Change, index.Entry.Entry}
 use Rattle.verifier.specs.declared.acts.Change.TheVariants as change
-use Rattle.verifier.specs.declared.index.Entry.{Entry}
 use Rattle.verifier.specs.Index.{cell_in, with_cell}
 
 -- the block can be added

@@ -7,7 +7,7 @@ use Rattle.nv_store.specs.declared.room.Room.{Room}
 use Rattle.verifier.specs.declared.acts.Change.{Change}
 use Rattle.row_node.specs.declared.node.RowNode.{RowNode}
 use Rattle.row_node.specs.contracts.cells.RoomCells.TheImpl as cells
-use Rattle.verifier_node.specs.declared.kept.VerifierRows.{VerifierRows}
+use Rattle.verifier_node.specs.declared.rows.VerifierRows.{VerifierRows}
 use Rattle.verifier_node.specs.contracts.rows.VerifierRowsRows.TheImpl as rows
 
 abbrev pub VerifierNode : (N : Type 0) → Ghosts N → Type 0

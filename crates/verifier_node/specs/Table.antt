@@ -8,9 +8,8 @@ use Rattle.row_node.specs.Tables.{Table}
 use Rattle.row_node.specs.Boots.{Found}
 use Rattle.row_node.specs.Counts.{few_found, few_after}
 use Rattle.row_node.specs.Laws.{Laws}
-use Rattle.verifier.specs.declared.acts.Change.{Change}
+use Rattle.verifier.specs.declared.{acts.Change.Change, index.Entry.Entry}
 use Rattle.verifier.specs.ActLaws.{IsFit}
-use Rattle.verifier.specs.declared.index.Entry.{Entry}
 use Rattle.verifier.specs.Payload.{IsPayloadOf, row_bytes}
 use Rattle.verifier.specs.Rows.{Row, TrustRow, BlockRow}
 use Rattle.verifier.specs.Seen.{Seen, AreTogether, IsKnown, cell_of, row_with, counting}
@@ -19,7 +18,7 @@ use Rattle.verifier_node.specs.Payloads.{rows_held, seen_held}
 use Rattle.verifier_node.specs.Boots.{AreJoined}
 use Rattle.verifier_node.specs.Held.{held_sound}
 use Rattle.verifier_node.specs.Sound.{HasCell}
-use Rattle.verifier_node.specs.declared.kept.VerifierRows.{VerifierRows}
+use Rattle.verifier_node.specs.declared.rows.VerifierRows.{VerifierRows}
 
 pub payload_prop : (k : ℕ) (x : Row) (p : List ℕ) → IsProp (IsPayloadOf k x p)
 payload_prop k (TrustRow d key) p = hlevel props

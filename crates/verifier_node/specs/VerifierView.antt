@@ -1,8 +1,6 @@
 -- What contracts see of the verifier and of its calls.
 use Rattle.std.specs.Prelude.{Option, Result}
-use Rattle.bench_base.specs.declared.ledger.Commit.{Commit}
-use Rattle.bench_base.specs.declared.refusals.ScanRefusal.{ScanRefusal}
-use Rattle.bench_base.specs.declared.refusals.Fail.{Fail}
+use Rattle.bench_base.specs.declared.{ledger.Commit.Commit, refusals.ScanRefusal.ScanRefusal, refusals.Fail.Fail}
 use Rattle.nv_model.specs.declared.nv.Nv.{Ghosts}
 use Rattle.verifier.specs.Acts.{ScanAct}
 use Rattle.verifier.specs.Seen.{Seen}

@@ -1,4 +1,4 @@
-//! What the cells of the verifier's memory tell, and what a change makes of one.
+//! What the cells of the verifier's memory hold, and what a change makes of one.
 ghost use Rattle.std.specs.Prelude.{◌≡◌, ◌<◌, ◌≤◌, MatchBool, IsSome, is_some, None, get_or};
 ghost use Rattle.bench_base.specs.declared.sizes.TheConstants.{VERIFIER_CELLS, FIRST_BLOCK, BLOCK_PIECES};
 ghost use Rattle.nv_store.specs.RoomView.{cells_of, kept_in};

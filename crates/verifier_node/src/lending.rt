@@ -1,6 +1,6 @@
 //! What the verifier lends to its calls.
-use crate::kept::{VerifierNode, VerifierRows};
 use crate::lookups::{scanning, trusting};
+use crate::rows::{VerifierNode, VerifierRows};
 use bench_base::numbers::{DayNo, DevNo};
 use bench_base::words::Key;
 use nv_model::Nv;

@@ -4,12 +4,11 @@
 mod boot;
 mod calls;
 mod cells;
-mod kept;
 mod lending;
 mod lookups;
 mod rows;
 mod running;
 
-pub use kept::{VerifierNode, VerifierRoom, VerifierRows};
+pub use rows::{VerifierNode, VerifierRoom, VerifierRows};
 pub use running::Verifier;
 pub use verifier::Accepted;

@@ -6,7 +6,7 @@ ghost use Rattle.verifier.specs.Acts as act_of;
 ghost use Rattle.verifier.specs.Seen.{key_at, spot_in};
 
 use crate::cells::{key_of, scan_of};
-use crate::kept::VerifierRows;
+use crate::rows::VerifierRows;
 use bench_base::numbers::{DayNo, DevNo};
 use bench_base::refusals::ScanRefusal;
 use bench_base::sizes::{BLOCK_PIECES, FIRST_BLOCK};
@@ -18,7 +18,7 @@ use nv_model::Nv;
 use row_node::RowNode;
 use verifier::{Accepted, ScanAct, Spot, scan_act, trust_act};
 
-// Where a piece of a device is looked up, by one search.
+// The spot where a piece of a device is looked up, by one search.
 fn spot<N: Nv>(node: &RowNode<N, VerifierRows>, device: u32, piece: u32) -> Spot
     ensures { result ≡ spot_in (seen_in node.now) device piece }
 {

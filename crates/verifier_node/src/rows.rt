@@ -1,14 +1,37 @@
-//! The rows of the verifier as those of a node.
+//! What the verifier keeps of its rows beside the memory of its cells, and its node.
 ghost use Rattle.verifier_node.specs.Indexes.{CanIndex, Indexes};
 
 use crate::boot::{index_rows, ready_keys};
 use crate::cells::{cell_of, payload_with};
-use crate::kept::VerifierRows;
 use bench_base::sizes::{BLOCK_BYTES, VERIFIER_CELLS};
 use nv_store::Room;
-use row_node::Rows;
+use row_node::{RowNode, RowRoom, Rows};
 use std::alloc::{AllocError, Global};
 use verifier::{BlockIndex, Change, ReadyKeys};
+
+/// The index of the blocks that the cells hold, and the keys of the devices that they trust, made ready.
+#[derive(Drop)]
+pub struct VerifierRows {
+    pub(crate) index: BlockIndex,
+    pub(crate) keys: ReadyKeys,
+}
+
+/// Memory for the 1,032 cells of the verifier, and for what it keeps of them.
+pub type VerifierRoom = RowRoom<VerifierRows>;
+
+/// The verifier over storage of 4,253,904 bytes: a cell of two slots for each device and each block, with its row as
+/// payload. While it is off, what it knew of its storage counts for nothing.
+pub type VerifierNode<N> = RowNode<N, VerifierRows>;
+
+impl VerifierRows {
+    /// No rows.
+    pub(crate) fn none() -> VerifierRows {
+        VerifierRows {
+            index: BlockIndex::new(),
+            keys: ReadyKeys::none(),
+        }
+    }
+}
 
 // Adds the block of a change whose cell was blank.
 fn index_change(index: &mut BlockIndex, change: &Change, fresh: bool)

@@ -10,7 +10,7 @@ ghost use Rattle.verifier_node.specs.Payloads.{IsDamaged};
 ghost use Rattle.verifier_node.specs.Table.{verifier_table};
 ghost use Rattle.row_node.specs.Boots.{AllShowSound};
 
-use crate::kept::VerifierRows;
+use crate::rows::VerifierRows;
 use bench_base::ledger::Commit;
 use bench_base::refusals::{BootFail, ScanFail};
 use bench_base::sizes::{BLOCK_BYTES, VERIFIER_CELLS};
@@ -32,10 +32,10 @@ impl<N: Nv> Verifier<N> {
     /// The verifier in its storage and in memory for 1,032 cells, or why it does not start, with both. Power is not lost.
     /// Nothing is written.
     ///
-    /// `Damaged` where the storage has not 4,253,904 bytes; where a cell has an open slot of count 0 or two open slots of
-    /// equal counts; where a current payload reads as no row of its cell; and where the rows break a condition together: the
-    /// device of a block is not trusted, a blank cell stands before a block, or two cells hold one block. Blank storage is a
-    /// verifier with no rows.
+    /// `Damaged` if the storage has not 4,253,904 bytes, or if a cell has an open slot of count 0 or two open slots of equal
+    /// counts. Also if a current payload reads as no row of its cell, or if the rows break a condition together. They break
+    /// one if the device of a block is not trusted, a blank cell is before a block, or two cells hold one block. Blank
+    /// storage is a verifier with no rows.
     pub fn boot(
         nv: N,
         room: Room<BLOCK_BYTES>,

@@ -1,10 +1,8 @@
 use Rattle.std.specs.Prelude.{slice_get, IfSome, ◌+◌, ◌-◌}
 use Rattle.std.proofs.Common.{◌≡◌, ◌↔◌, ℕ, List, [], ◌∷◌, Option, Some, None, true, false, refl, sym, ◌∙◌, ap, subst, arith}
-use Rattle.bench_base.specs.declared.words.Node.TheVariants.{Device, Centre, Host, Verifier}
+use Rattle.bench_base.specs.declared.{words.Node.TheVariants.Device, words.Node.TheVariants.Centre, words.Node.TheVariants.Host, words.Node.TheVariants.Verifier, events.Event.Event, events.Reply.Reply}
 use Rattle.bench_base.specs.declared.ledger.Entry.TheVariants as entry
-use Rattle.bench_base.specs.declared.events.Event.{Event}
 use Rattle.bench_base.specs.declared.events.Event.TheVariants as ev
-use Rattle.bench_base.specs.declared.events.Reply.{Reply}
 use Rattle.bench_base.specs.declared.events.Reply.TheVariants as r
 use Rattle.bench_base.specs.Replies.{on_after}
 use Rattle.bench_base.specs.Events.{IsWholeEvent}
@@ -125,7 +123,7 @@ returns-in-NoMessage-clause-did g c =
           (steps_missing (nodes_in g) old c.requires.ready out c.in-Some-today.day c.in-Some-today.is centre_seen.IsKnown (λ s sound. sound.known) c.nodes_follow.ensures.quiet c.prices_by_text.ensures.kept c.args.event.now c.requires.whole k is),
     )
 
--- what a device and the centre show, as they run, is what any two views show for which they stand
+-- what a running device and the running centre show is what any two views that they represent show
 compares : (g : Over) (d : ℕ) (reply : Reply) (old : B g) → ShowsAt d old.devices old.centre reply → (i : ℕ) (s : DeviceNode g.row.M.Denot g.M.Nv) → d ≡ i + 1 → slice_get old.devices i ≡ Some s
     → ComparesViews (nodes_in g) d reply old.centre s
 compares g d reply old shows i s next is v w device centre tells =

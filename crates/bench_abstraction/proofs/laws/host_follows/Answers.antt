@@ -1,13 +1,9 @@
 use Rattle.std.proofs.Common.{◌≡◌, [], Option, Some, subst}
-use Rattle.bench_base.specs.declared.words.Node.TheVariants.{Host}
-use Rattle.bench_base.specs.declared.ledger.Commit.{Commit}
-use Rattle.bench_base.specs.declared.events.Reply.{Reply}
+use Rattle.bench_base.specs.declared.{words.Node.TheVariants.Host, ledger.Commit.Commit, events.Reply.Reply}
 use Rattle.bench_base.specs.Plans.{Plan}
 use Rattle.bench_base.specs.Rules.{todays_rules}
 use Rattle.bench_base.specs.Ledger.{counted}
-use Rattle.node_acts.specs.declared.act.Act.{Act}
-use Rattle.node_acts.specs.declared.said.Said.{Said}
-use Rattle.node_acts.specs.declared.asked.Asked.TheVariants.{Call}
+use Rattle.node_acts.specs.declared.{act.Act.Act, said.Said.Said, asked.Asked.TheVariants.Call}
 use Rattle.node_acts.specs.Acts.{commit_of}
 use Rattle.node_acts.specs.Said.{seen_plan}
 use Rattle.node_acts.proofs.Told.{seen_commit, seen_own}

@@ -1,15 +1,10 @@
 use Rattle.std.proofs.Common.{◌≡◌, ◌∷◌, [], Option, Some, refl, ◌∙◌, ap, subst}
 use Rattle.std.specs.Prelude.{IfSome}
-use Rattle.bench_base.specs.declared.words.Node.TheVariants.{Device, Centre}
-use Rattle.bench_base.specs.declared.ledger.Commit.{Commit}
-use Rattle.bench_base.specs.declared.events.Reply.{Reply}
+use Rattle.bench_base.specs.declared.{words.Node.TheVariants.Device, words.Node.TheVariants.Centre, ledger.Commit.Commit, events.Reply.Reply}
 use Rattle.bench_base.specs.Plans.{Plan}
 use Rattle.bench_base.specs.Rules.{todays_rules}
 use Rattle.bench_base.specs.Ledger.{counted}
-use Rattle.node_acts.specs.declared.act.Act.{Act}
-use Rattle.node_acts.specs.declared.said.Said.{Said}
-use Rattle.node_acts.specs.declared.asked.Asked.{Asked}
-use Rattle.node_acts.specs.declared.asked.Asked.TheVariants.{Call}
+use Rattle.node_acts.specs.declared.{act.Act.Act, said.Said.Said, asked.Asked.Asked, asked.Asked.TheVariants.Call}
 use Rattle.node_acts.specs.Acts.{commit_of}
 use Rattle.node_acts.specs.Kinds.{node_plan, node_commit}
 use Rattle.node_acts.specs.Said.{seen_plan}
@@ -19,8 +14,7 @@ use Rattle.psd_state.specs.Seen as device
 use Rattle.centre_ledger.specs.Seen as centre
 use Rattle.centre_ledger.specs.declared.rows.Row.{Row}
 use Rattle.ledger_laws.specs.Nexts.{AreOrdered}
-use Rattle.bench_abstraction.specs.declared.calls.DeviceCall.{DeviceCall}
-use Rattle.bench_abstraction.specs.declared.calls.CentreCall.{CentreCall}
+use Rattle.bench_abstraction.specs.declared.{calls.DeviceCall.DeviceCall, calls.CentreCall.CentreCall}
 use Rattle.bench_abstraction.specs.declared.routing.Routed.TheVariants as route
 use Rattle.bench_abstraction.specs.declared.routing.OfDay.TheVariants as of_day
 use Rattle.bench_abstraction.specs.Routing.{routed}

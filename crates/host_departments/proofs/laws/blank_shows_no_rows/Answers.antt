@@ -1,4 +1,4 @@
-use Rattle.row_store.proofs.Blank.{blank_shown}
+use Rattle.row_node.proofs.Blank.{blank_shown}
 use Rattle.row_store.specs.Seen.{ReadsAs}
 use Rattle.host_departments.proofs.Blank.{no_row}
 use Rattle.host_departments.specs.Payload.{decoded}

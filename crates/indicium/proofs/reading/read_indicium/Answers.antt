@@ -1,8 +1,7 @@
 use Rattle.std.proofs.Common.{◌≡◌, ◌≢◌, ◌↔◌, ℕ, List, Result, length, slice_index, IfOk, IsErrOf, sym, ◌∙◌, subst, arith}
 use Rattle.bench_base.specs.Table.{IsBytes}
 use Rattle.bench_base.specs.Rules.{IsVersion}
-use Rattle.bench_base.specs.declared.refusals.MarkFault.{MarkFault}
-use Rattle.bench_base.specs.declared.refusals.MarkFault.TheVariants.{Length, Version, Algorithm}
+use Rattle.bench_base.specs.declared.{refusals.MarkFault.MarkFault, refusals.MarkFault.TheVariants.Length, refusals.MarkFault.TheVariants.Version, refusals.MarkFault.TheVariants.Algorithm}
 use Rattle.indicium.specs.Marks.{ReadsAs}
 use Rattle.indicium.specs.declared.Mark.{Mark}
 use Rattle.indicium.proofs.Readings as laws

@@ -1,7 +1,6 @@
 use Rattle.std.proofs.Common.{[], ◌∷◌, ◌++◌, ◌∙◌, sym, ap, subst, arith}
 use Rattle.bench_base.specs.declared.events.Event.{Event}
-use Rattle.line_extensions.specs.declared.extension.Next.{Next}
-use Rattle.line_extensions.specs.declared.extension.Next.TheVariants.{Step}
+use Rattle.line_extensions.specs.declared.{extension.Next.Next, extension.Next.TheVariants.Step}
 use Rattle.line_extensions.specs.Wants.{IsQuiet, MayAsk, IsStep}
 use Rattle.line_extensions.proofs.Asking.{asks_none, asks_more, still_quiet}
 use Rattle.line_extensions.proofs.side.ask_all.Goals as goal

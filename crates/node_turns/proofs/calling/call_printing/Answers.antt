@@ -1,11 +1,8 @@
 use Rattle.std.proofs.Common.{[], ◌≡◌, refl, sym, ◌∙◌, ap, subst, Option}
-use Rattle.bench_base.specs.declared.words.Node.{Node}
-use Rattle.bench_base.specs.declared.ledger.Commit.{Commit}
-use Rattle.bench_base.specs.declared.events.Reply.{Reply}
+use Rattle.bench_base.specs.declared.{words.Node.Node, ledger.Commit.Commit, events.Reply.Reply}
 use Rattle.bench_base.specs.declared.events.Reply.TheVariants as r
-use Rattle.node_acts.specs.declared.act.Act.{Act}
+use Rattle.node_acts.specs.declared.{act.Act.Act, said.Said.Said}
 use Rattle.node_acts.specs.declared.act.Outcome.TheVariants as o
-use Rattle.node_acts.specs.declared.said.Said.{Said}
 use Rattle.node_acts.specs.Said.{saying, planned_commit}
 use Rattle.node_storage.proofs.Called.{off_call}
 use Rattle.node_turns.specs.Printing.{PrintsCall, prints_nothing, prints, fails, unprinted_turn, printer_of}

@@ -8,7 +8,7 @@ use Rattle.psd_state.proofs.Under.{body_request, filled_front, front_filled, zer
 use Rattle.psd_state.proofs.Read.{some_by}
 use Rattle.psd_state.proofs.parts.read_filled.Goals as goal
 
--- what stands in front and behind, where the request ends after n bytes
+-- the request, and the zeros after it, if it ends after n bytes
 at : (q : Request) (bytes : List ℕ) (n : ℕ) → n ≡ body_room (get_or bytes 0 0) → grammar.IsWhole (m.Request q) → filled q ≡ bytes
     → (grammar.body (m.Request q) ≡ take n bytes) × (replicate (55 - n) 0 ≡ drop n bytes)
 at q bytes n e w is = subst (λ k. (grammar.body (m.Request q) ≡ take k bytes) × (replicate (55 - k) 0 ≡ drop k bytes)) (sym e) (filled_front q bytes w is)

@@ -1,7 +1,6 @@
 use Rattle.std.proofs.Common.{◌≡◌, ℕ, ◌+◌, ◌*◌, ◌∙◌, sym, ap, subst, true≢false}
 use Rattle.std.specs.Prelude.{IsErrOf, Err}
-use Rattle.bench_base.specs.declared.refusals.BootFail.{BootFail}
-use Rattle.bench_base.specs.declared.refusals.BootFail.TheVariants.{Damaged}
+use Rattle.bench_base.specs.declared.{refusals.BootFail.BootFail, refusals.BootFail.TheVariants.Damaged}
 use Rattle.nv_store.specs.Rooms.{HasMixed}
 use Rattle.nv_store.specs.TableKnows.{table_only}
 use Rattle.row_store.proofs.Booted.{mount_damaged, images_show, foreign_damaged, unsound_damaged, not_damaged}

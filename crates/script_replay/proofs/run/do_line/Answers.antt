@@ -8,8 +8,7 @@ use Rattle.script_words.specs.declared.word.LineFault.{LineFault}
 use Rattle.line_extensions.specs.Trace.{line_of}
 use Rattle.line_extensions.specs.Events.{IsLineOf}
 use Rattle.line_runs.specs.Turns.{LineEnd, Reported}
-use Rattle.line_runs.specs.declared.status.SideStatus.{SideStatus}
-use Rattle.line_runs.specs.declared.status.SideStatus.TheVariants.{Run}
+use Rattle.line_runs.specs.declared.{status.SideStatus.SideStatus, status.SideStatus.TheVariants.Run}
 use Rattle.line_runs.specs.declared.status.Status.TheVariants as status
 use Rattle.script_replay.specs.ScriptLaws.{are_done}
 use Rattle.script_replay.proofs.Chains.{did_one}

@@ -5,7 +5,7 @@ use Rattle.script_text.proofs.EachEvent.{no_event}
 use Rattle.script_text.proofs.LineForms.{not_alone}
 use Rattle.script_text.proofs.events.read_behind.Goals as goal
 
--- words behind a keyword that stands alone
+-- words after a keyword that is a line alone
 pub returns-in-Rates : goal.returns-in-Rates
 returns-in-Rates c = record { read = rw c.in-Rates.is (no_event kw.Rates (words_in c.args.rest.now) (λ whole are. not_alone (codes "rates") c.args.rest.now are)) }
 

@@ -25,7 +25,7 @@ module _ (line : List ℕ) where
   only (Ok x) read e whole spells = ap Ok (one_event_of x e line read.0 whole (spelled x line read.1) spells)
   only (Err fault) read e whole spells = absurd (read e whole (words_spelled e line whole spells))
 
--- what stands behind the keyword reads as the line does
+-- what follows the keyword reads as the line does
 behind : (line word : List ℕ) (rest : List (List ℕ)) (k : Keyword) (r : Result Event LineFault) → words_in line ≡ word ∷ rest → word ≡ keyword_word k → IsEventBehind k rest r → IsEventOf (words_in line) r
 behind line word rest k r split key read = subst (λ ws. IsEventOf ws r) (sym (split ∙ ap (λ w. w ∷ rest) key)) read
 

@@ -1,4 +1,4 @@
-use Rattle.row_store.proofs.Blank.{blank_shown}
+use Rattle.row_node.proofs.Blank.{blank_shown}
 use Rattle.row_store.specs.Seen.{ReadsAs}
 use Rattle.spoil_claims.proofs.Blank.{no_claim}
 use Rattle.spoil_claims.specs.Payload.{decoded}

@@ -1,8 +1,7 @@
 use Rattle.std.proofs.Common.{◌≡◌, sym, ◌∙◌, ap, subst}
 use Rattle.bench_base.specs.Events.{brought_by}
 use Rattle.bench_base.specs.Rules.{todays_rules}
-use Rattle.bench_base.specs.declared.questions.Brought.{Brought}
-use Rattle.bench_base.specs.declared.questions.Brought.TheVariants.{Handed, Scanned}
+use Rattle.bench_base.specs.declared.{questions.Brought.Brought, questions.Brought.TheVariants.Handed, questions.Brought.TheVariants.Scanned}
 use Rattle.indicium.specs.Marks.{read_mark}
 use Rattle.ledger_moves.specs.Histories.{AreKnown}
 use Rattle.trace_bench.specs.Forging.{TellsNot}

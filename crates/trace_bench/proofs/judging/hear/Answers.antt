@@ -6,8 +6,7 @@ use Rattle.bench_abstraction.specs.declared.routing.Routed.TheVariants as route
 use Rattle.bench_abstraction.specs.declared.routing.OfDay.TheVariants as of_day
 use Rattle.bench_abstraction.specs.Tariff.{quote}
 use Rattle.bench.proofs.Events.{taken_as, work_as, needs_taken}
-use Rattle.trace_bench.specs.declared.judging.Heard.{Heard}
-use Rattle.trace_bench.specs.declared.judging.Finding.{Finding}
+use Rattle.trace_bench.specs.declared.{judging.Heard.Heard, judging.Finding.Finding}
 use Rattle.trace_bench.specs.Debits.{OthersRest}
 use Rattle.trace_bench.specs.Judging.{IsHeard}
 use Rattle.trace_bench.specs.Placed.{ComparesInPlace}

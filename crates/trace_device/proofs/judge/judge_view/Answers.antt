@@ -1,10 +1,8 @@
 use Rattle.std.proofs.Common.{◌≡◌, ℕ, ℤ, List, Result, None, refl, sym, subst}
-use Rattle.bench_base.specs.declared.words.Node.TheVariants.{Device}
-use Rattle.bench_base.specs.declared.events.Reply.{Reply}
+use Rattle.bench_base.specs.declared.{words.Node.TheVariants.Device, events.Reply.Reply}
 use Rattle.bench_base.specs.declared.events.Reply.TheVariants as r
 use Rattle.bench_base.specs.Plans.{refuse}
-use Rattle.node_acts.specs.declared.act.Act.{Act}
-use Rattle.node_acts.specs.declared.said.Said.{Said}
+use Rattle.node_acts.specs.declared.{act.Act.Act, said.Said.Said, asked.Asked.Asked}
 use Rattle.psd_state.specs.State.{State}
 use Rattle.trace_nodes.specs.Giving.{JudgedGivingCall}
 use Rattle.node_acts.specs.declared.asked.Asked.TheVariants as asks
@@ -13,7 +11,6 @@ use Rattle.node_acts.specs.Views.{View}
 use Rattle.node_acts.specs.Said.{IsPlain}
 use Rattle.bench_abstraction.proofs.Plans.{call_own}
 use Rattle.std.specs.Prelude.{IfSome}
-use Rattle.node_acts.specs.declared.asked.Asked.{Asked}
 use Rattle.psd_state.specs.Seen.{Seen, counting}
 use Rattle.bench_abstraction.specs.declared.calls.DeviceCall.{DeviceCall}
 use Rattle.bench_abstraction.specs.Devices.{device_act, IsKnown}

@@ -1,12 +1,8 @@
 use Rattle.std.proofs.Common.{◌≡◌, ℕ, ◌+◌, List, [], ◌++◌, Option, length, append-nil, ◌∙◌, ap, subst}
 use Rattle.std.proofs.lemmas.List.Elements.{recursion_from_All}
 use Rattle.script_text.specs.Texts.{text_of}
-use Rattle.trace_runs.specs.declared.imprint.Imprint.{Imprint}
+use Rattle.trace_runs.specs.declared.{imprint.Imprint.Imprint, imprint.Given.Given, verdict.Ending.Ending, verdict.Verdict.Verdict, verdict.Verdict.TheVariants.Lawful}
 use Rattle.trace_bench.specs.Seeing.{Audit}
-use Rattle.trace_runs.specs.declared.imprint.Given.{Given}
-use Rattle.trace_runs.specs.declared.verdict.Ending.{Ending}
-use Rattle.trace_runs.specs.declared.verdict.Verdict.{Verdict}
-use Rattle.trace_runs.specs.declared.verdict.Verdict.TheVariants.{Lawful}
 use Rattle.trace_runs.specs.Imprints.{imprint_at}
 use Rattle.trace_runs.specs.Prints.{ArePrinted}
 use Rattle.trace_runs.specs.Verdicts.{Audited, imprints_from, last_given}

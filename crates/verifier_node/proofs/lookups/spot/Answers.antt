@@ -1,6 +1,6 @@
 use Rattle.std.proofs.Common.{sym, ◌∙◌, ap}
 use Rattle.verifier.specs.Index.{cell_in}
-use Rattle.verifier_node.specs.declared.kept.VerifierRows.{VerifierRows}
+use Rattle.verifier_node.specs.declared.rows.VerifierRows.{VerifierRows}
 use Rattle.bench_base.specs.Scans.{block_of}
 use Rattle.verifier.proofs.Cells.{cell_found, blocks_begin}
 use Rattle.row_node.specs.Knows.{keeps}

@@ -1,6 +1,5 @@
 use Rattle.std.proofs.Common.{[], None, suc, replicate, true, false, ◌≡◌, length, refl, arith, subst, sym, ◌∙◌}
-use Rattle.bench_base.specs.declared.words.Node.TheVariants.{Device, Centre, Host, Verifier}
-use Rattle.bench_base.specs.declared.sizes.TheConstants.{RECORD_BYTES, SLOTS, DEVICE_BYTES, ROW_BYTES, CENTRE_CELLS, CENTRE_BYTES, BLOCK_BYTES, VERIFIER_CELLS, VERIFIER_BYTES}
+use Rattle.bench_base.specs.declared.{words.Node.TheVariants.Device, words.Node.TheVariants.Centre, words.Node.TheVariants.Host, words.Node.TheVariants.Verifier, sizes.TheConstants.RECORD_BYTES, sizes.TheConstants.SLOTS, sizes.TheConstants.DEVICE_BYTES, sizes.TheConstants.ROW_BYTES, sizes.TheConstants.CENTRE_CELLS, sizes.TheConstants.CENTRE_BYTES, sizes.TheConstants.BLOCK_BYTES, sizes.TheConstants.VERIFIER_CELLS, sizes.TheConstants.VERIFIER_BYTES}
 use Rattle.nv_model.specs.contracts.fused.FusedNv.TheImpl.{ghosts}
 use Rattle.nv_model.specs.Fuses.{inside}
 use Rattle.psd_device.specs.Knows.{shown_as}
@@ -14,7 +13,8 @@ use Rattle.host_jobs.specs.Records as jobs
 use Rattle.verifier.specs.Records as scans
 use Rattle.bench.specs.Places.{IsDeviceOver}
 use Rattle.bench.proofs.Making.{Moved, moved_start, moved_more, moved_some, moved_done, moved_from, moved_none, pairs_as, pairs_length}
-use Rattle.bench.proofs.Blank.{blank_stand, blank_shown, zeros_show}
+use Rattle.row_node.proofs.Blank.{blank_shown, zeros_show}
+use Rattle.bench.proofs.Blank.{blank_stand}
 use Rattle.bench.proofs.BlankCentre.{centre_nothing, centre_sound}
 use Rattle.host_jobs.proofs.Seeing as host_seeing
 use Rattle.bench.proofs.BlankHost.{host_sound}

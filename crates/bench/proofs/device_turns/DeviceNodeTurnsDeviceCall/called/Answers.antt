@@ -1,8 +1,7 @@
 use Rattle.std.proofs.Common.{ℕ, ℤ, Option, Some, None, refl, ◌≡◌}
 use Rattle.std.specs.Prelude.{IfSome}
-use Rattle.bench_base.specs.declared.words.Node.TheVariants.{Device}
+use Rattle.bench_base.specs.declared.{words.Node.TheVariants.Device, numbers.DevNo.DevNo}
 use Rattle.bench_base.specs.declared.events.Reply.TheVariants as r
-use Rattle.bench_base.specs.declared.numbers.DevNo.{DevNo}
 use Rattle.bench_base.specs.Rules.{todays_rules}
 use Rattle.node_storage.specs.declared.node.Node.{Ghosts}
 use Rattle.psd_state.specs.declared.record.DevRec.{DevRec}

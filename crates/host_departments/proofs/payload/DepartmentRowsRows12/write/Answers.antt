@@ -1,8 +1,7 @@
 use Rattle.std.proofs.Common.{◌∙◌, ℕ, [], ◌∷◌, Some, sym, ap, subst}
 use Rattle.bench_base.specs.Table.{Fit}
 use Rattle.host_departments.specs.Payload.{IsFit, cell_table, cell_bytes, spelled}
-use Rattle.host_departments.specs.declared.row.DepartmentRow.{DepartmentRow}
-use Rattle.host_departments.specs.declared.row.DepartmentRow.TheVariants.{Quota, Job}
+use Rattle.host_departments.specs.declared.{row.DepartmentRow.DepartmentRow, row.DepartmentRow.TheVariants.Quota, row.DepartmentRow.TheVariants.Job}
 use Rattle.host_departments.proofs.Payloads.{quota_written, job_written}
 use Rattle.host_departments.proofs.payload.DepartmentRowsRows12.write.Goals as goal
 

@@ -2,8 +2,7 @@ use Rattle.std.proofs.Common.{◌≡◌, ◌⊎◌, ℕ, ◌≤◌, ◌++◌, []
 use Rattle.std.proofs.lemmas.List.{append-nil}
 use Rattle.nv_model.specs.Moments.{IsImage}
 use Rattle.nv_model.specs.Replay.{Stand, replay, stood, at_first, marked, fits_all, SinceMoment}
-use Rattle.nv_model.specs.declared.step.Step.{Step}
-use Rattle.nv_model.specs.declared.step.Step.TheVariants.{Synced}
+use Rattle.nv_model.specs.declared.{step.Step.Step, step.Step.TheVariants.Synced}
 use Rattle.nv_model.proofs.Replayed.{settled, settled_bases, settled_fits, settled_only, settled_stays, settled_else, pushed_keeps}
 use Rattle.nv_model.proofs.medium.Medium.settle.Goals as goal
 

@@ -2,8 +2,7 @@ use Rattle.std.proofs.Common.{◌≡◌, ◌⊎◌, ℕ, ◌≤◌, ◌++◌, []
 use Rattle.nv_model.specs.Bytes.{laid, SameOutside}
 use Rattle.nv_model.specs.Moments.{IsImage}
 use Rattle.nv_model.specs.Replay.{replay, stood, at_first, fits_all, SinceMoment}
-use Rattle.nv_model.specs.declared.step.Step.{Step}
-use Rattle.nv_model.specs.declared.step.Step.TheVariants.{Torn}
+use Rattle.nv_model.specs.declared.{step.Step.Step, step.Step.TheVariants.Torn}
 use Rattle.std.proofs.lemmas.List.{length-replicate}
 use Rattle.nv_model.proofs.Ranges.{laid_outside}
 use Rattle.nv_model.proofs.Images.{image_torn}

@@ -2,8 +2,7 @@ use Rattle.std.proofs.Common.{refl, false, Bool, ◌≡◌, ℕ, ◌++◌, [], �
 use Rattle.nv_model.specs.Bytes.{SameOutside}
 use Rattle.nv_model.specs.Moments.{IsImage, Writes}
 use Rattle.nv_model.specs.Replay.{Stand, replay, stood, at_first, marked, fits_all, SinceMoment, within}
-use Rattle.nv_model.specs.declared.step.Step.{Step}
-use Rattle.nv_model.specs.declared.step.Step.TheVariants.{Written}
+use Rattle.nv_model.specs.declared.{step.Step.Step, step.Step.TheVariants.Written}
 use Rattle.nv_model.proofs.Ranges.{laid_outside}
 use Rattle.nv_model.proofs.Replayed.{write_content, write_base, write_written, write_bases, write_fits, write_places, write_image, write_elapses_else, write_tears, pushed_keeps, stood_end, within_in}
 use Rattle.nv_model.proofs.medium.Medium.write.Goals as goal

@@ -31,7 +31,7 @@ returns-in-Ok-clause-damaged g c tells damaged =
     not_damaged g.N.Nv c.args.device k.nv (record { count = s.count; state = s.state; own = e.starts.1.own; shows = (known.knows k tells e.leaves).shows })
     (known.size k e.leaves) damaged
 
--- what a boot that failed left is none of the device
+-- what a boot found damaged is not a valid storage of the device
 left_damaged : (g : Over) (c : goal.After-into_storage g) → g.N.Nv.tells → c.in-Err.fail ≡ boot.Damaged → IsDamaged g.N.Nv c.args.device c.boot_record.new.self.nv
 left_damaged g c tells is = c.in-Err.ensures.damaged tells (ap (λ (f : BootFail). Err f) is)
 

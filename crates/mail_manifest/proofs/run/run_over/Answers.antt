@@ -1,7 +1,7 @@
 use Rattle.bench.specs.Benches.{bench_of}
 use Rattle.script_replay.proofs.Nothing.{side_said}
 use Rattle.mail_manifest.proofs.Nothing.{manifest_fresh}
-use Rattle.mail_manifest.proofs.fresh.run_over.Goals as goal
+use Rattle.mail_manifest.proofs.run.run_over.Goals as goal
 
 pub returns-clause-ran : goal.returns-clause-ran
 returns-clause-ran g c = record {

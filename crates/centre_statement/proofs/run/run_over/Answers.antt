@@ -1,7 +1,7 @@
 use Rattle.bench.specs.Benches.{bench_of}
 use Rattle.script_replay.proofs.Nothing.{side_said}
 use Rattle.centre_statement.proofs.Nothing.{statements_fresh}
-use Rattle.centre_statement.proofs.fresh.run_over.Goals as goal
+use Rattle.centre_statement.proofs.run.run_over.Goals as goal
 
 pub returns-clause-ran : goal.returns-clause-ran
 returns-clause-ran g c =

@@ -1,7 +1,7 @@
 use Rattle.bench.specs.Benches.{bench_of}
 use Rattle.script_replay.proofs.Nothing.{side_said}
-use Rattle.spoil_claims.proofs.Nothing.{claims_fresh}
-use Rattle.spoil_claims.proofs.fresh.run_over.Goals as goal
+use Rattle.spoil_claims.proofs.Running.{claims_fresh}
+use Rattle.spoil_claims.proofs.run.run_over.Goals as goal
 
 pub returns : goal.returns
 returns g c = record {

@@ -1,5 +1,5 @@
 use Rattle.spoil_claims.specs.declared.claim.TheConstants.{CLAIM_BYTES}
-use Rattle.spoil_claims.proofs.fresh.fresh_desk.Goals as goal
+use Rattle.spoil_claims.proofs.run.fresh_desk.Goals as goal
 
 pub boot-requires-clause-powered : goal.boot-requires-clause-powered
 boot-requires-clause-powered c = c.in_ok-nv.ensures.works.powered

@@ -1,7 +1,7 @@
 use Rattle.bench.specs.Benches.{bench_of}
 use Rattle.script_replay.proofs.Nothing.{side_said}
-use Rattle.host_departments.proofs.Nothing.{departments_fresh}
-use Rattle.host_departments.proofs.fresh.run_over.Goals as goal
+use Rattle.host_departments.proofs.Running.{departments_fresh}
+use Rattle.host_departments.proofs.run.run_over.Goals as goal
 
 pub returns : goal.returns
 returns g c = record {

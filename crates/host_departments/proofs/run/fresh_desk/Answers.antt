@@ -1,5 +1,5 @@
 use Rattle.host_departments.specs.declared.row.TheConstants.{DEPARTMENT_BYTES}
-use Rattle.host_departments.proofs.fresh.fresh_desk.Goals as goal
+use Rattle.host_departments.proofs.run.fresh_desk.Goals as goal
 
 pub boot-requires-clause-powered : goal.boot-requires-clause-powered
 boot-requires-clause-powered c = c.in_ok-nv.ensures.works.powered
