@@ -29,29 +29,24 @@ fn between(auditor: &Auditor, device: DevNo, view: &DevView) -> Compared
         flight: None,
         amount: 0,
     };
-    match auditor.reconcile_of(device) {
-        Reply::Reconciled {
-            held,
-            centre,
-            in_flight: Some((kind, amount)),
-            ..
-        } => Compared {
-            held,
-            centre: Some(centre),
-            flight: Some(kind),
-            amount,
-        },
-        Reply::Reconciled {
-            held,
-            centre,
-            in_flight: None,
-            ..
-        } => Compared {
-            held,
-            centre: Some(centre),
-            ..alone
-        },
-        _ => alone,
+    let Reply::Reconciled {
+        held,
+        centre,
+        in_flight,
+        ..
+    } = auditor.reconcile_of(device)
+    else {
+        return alone;
+    };
+    let (flight, amount) = match in_flight {
+        Some((kind, amount)) => (Some(kind), amount),
+        None => (None, 0),
+    };
+    Compared {
+        held,
+        centre: Some(centre),
+        flight,
+        amount,
     }
 }
 

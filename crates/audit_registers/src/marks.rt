@@ -179,12 +179,20 @@ pub fn put_amounts(sheet: &mut Sheet, told: &Told<'_>, axis: &Axis, span: &Span,
     }
 }
 
+// Whether the node is the device.
+fn is_device(node: Node, device: DevNo) -> bool {
+    match node {
+        Node::Device(other) => other == device,
+        Node::Centre | Node::Host | Node::Verifier => false,
+    }
+}
+
 // The word for a failure of the device.
 fn failure_of(incident: &Incident, device: DevNo) -> Option<&'static str> {
     match incident.mishap {
-        Mishap::Power(Node::Device(failed)) if failed == device => Some("power"),
-        Mishap::Fault(Node::Device(failed)) if failed == device => Some("fault"),
-        _ => None,
+        Mishap::Power(node) if is_device(node, device) => Some("power"),
+        Mishap::Fault(node) if is_device(node, device) => Some("fault"),
+        Mishap::Power(_) | Mishap::Fault(_) | Mishap::Printer(_) | Mishap::Stop => None,
     }
 }
 

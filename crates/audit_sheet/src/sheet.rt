@@ -1,4 +1,9 @@
 //! The sheet, and its four entries.
+ghost use Rattle.std.specs.Prelude.{◌≡◌, [], ◌∷◌, flat_map, All};
+ghost use Rattle.std.specs.Fmt.{decimal};
+ghost use Rattle.audit_sheet.specs.Sheets as sheets;
+ghost use Rattle.audit_sheet.specs.Sheets.{Adds, IsSafe, own_byte, own_bytes, escaped, shown_of};
+
 use crate::grouping::put_dollars;
 use audit_words::shown;
 use std::alloc::{AllocError, Global};
@@ -12,10 +17,14 @@ pub struct Sheet {
     is_whole: bool,
     /// Whether each amount has three decimals.
     has_mills: bool,
+    ghost safe: { All IsSafe bytes.items },
 }
 
 // The byte, or a question mark in place of one that is neither printable ASCII nor a line end.
-fn safe(byte: u8) -> u8 {
+fn safe(byte: u8) -> u8
+    ensures own { own_byte byte ≡ result ∷ [] }
+    ensures safe { IsSafe result }
+{
     if byte == 10 || byte >= 32 && byte < 127 {
         byte
     } else {
@@ -35,21 +44,31 @@ impl Sheet {
     }
 
     // Puts a byte.
-    fn put_byte(&mut self, byte: u8) {
-        if self.is_whole && self.bytes.push(safe(byte)).is_err() {
-            self.is_whole = false;
+    fn put_byte(&mut self, byte: u8)
+        ensures { Adds (own_byte byte) self.old.bytes.items self.new.bytes.items self.old.is_whole self.new.is_whole }
+    {
+        if !self.is_whole {
+            return;
+        }
+        match self.bytes.push(safe(byte)) {
+            Ok(()) => {}
+            Err(_) => self.is_whole = false,
         }
     }
 
     // Puts the bytes.
-    fn put_bytes(&mut self, bytes: &[u8]) {
+    fn put_bytes(&mut self, bytes: &[u8])
+        ensures { Adds (own_bytes bytes.now) self.old.bytes.items self.new.bytes.items self.old.is_whole self.new.is_whole }
+    {
         for at in 0..bytes.len() {
             self.put_byte(bytes[at]);
         }
     }
 
     // Puts a byte of an input: a character that could be markup as its entity.
-    fn put_escaped(&mut self, byte: u8) {
+    fn put_escaped(&mut self, byte: u8)
+        ensures { Adds (escaped byte) self.old.bytes.items self.new.bytes.items self.old.is_whole self.new.is_whole }
+    {
         match byte {
             b'<' => self.put_bytes(b"&lt;"),
             b'>' => self.put_bytes(b"&gt;"),
@@ -61,14 +80,18 @@ impl Sheet {
     }
 
     // Puts bytes of an input.
-    fn put_all_escaped(&mut self, bytes: &[u8]) {
+    fn put_all_escaped(&mut self, bytes: &[u8])
+        ensures { Adds (flat_map escaped bytes.now) self.old.bytes.items self.new.bytes.items self.old.is_whole self.new.is_whole }
+    {
         for at in 0..bytes.len() {
             self.put_escaped(bytes[at]);
         }
     }
 
     // Puts a text that is shown, cut in the middle to so many characters.
-    fn put_cut(&mut self, text: &[u8], most: usize) {
+    fn put_cut(&mut self, text: &[u8], most: usize)
+        ensures { Adds (sheets.put_cut text.now most) self.old.bytes.items self.new.bytes.items self.old.is_whole self.new.is_whole }
+    {
         let len = text.len();
         if len <= most {
             return self.put_all_escaped(text);
@@ -80,12 +103,16 @@ impl Sheet {
     }
 
     /// Puts markup or words of the program.
-    pub fn put_own(&mut self, own: &'static str) {
+    pub fn put_own(&mut self, own: &'static str)
+        ensures { Adds (own_bytes own.now) self.old.bytes.items self.new.bytes.items self.old.is_whole self.new.is_whole }
+    {
         self.put_bytes(own.as_bytes());
     }
 
     /// Puts a text of an input: bytes that are no printable ASCII as `\xNN`, cut in the middle to so many characters, and nothing that could be markup.
-    pub fn put_text(&mut self, text: &[u8], most: usize) {
+    pub fn put_text(&mut self, text: &[u8], most: usize)
+        ensures { Adds (shown_of text.now most) self.old.bytes.items self.new.bytes.items self.old.is_whole self.new.is_whole }
+    {
         match shown(self.alloc, text) {
             Ok(text) => self.put_cut(text.as_bytes(), most),
             Err(_) => self.is_whole = false,
@@ -93,7 +120,9 @@ impl Sheet {
     }
 
     /// Puts the digits of a number.
-    pub fn put_number(&mut self, number: u64) {
+    pub fn put_number(&mut self, number: u64)
+        ensures { Adds (decimal number) self.old.bytes.items self.new.bytes.items self.old.is_whole self.new.is_whole }
+    {
         if number >= 10 {
             self.put_number(number / 10);
         }
