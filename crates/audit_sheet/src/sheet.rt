@@ -1,5 +1,5 @@
 //! The sheet, and its four entries.
-ghost use Rattle.std.specs.Prelude.{◌≡◌, [], ◌∷◌, flat_map, All};
+ghost use Rattle.std.specs.Prelude.{◌≡◌, ◌+◌, ◌<◌, [], ◌∷◌, flat_map, All};
 ghost use Rattle.std.specs.Fmt.{decimal};
 ghost use Rattle.audit_sheet.specs.Sheets as sheets;
 ghost use Rattle.audit_sheet.specs.Sheets.{Adds, IsSafe, own_byte, own_bytes, escaped, shown_of};
@@ -119,14 +119,25 @@ impl Sheet {
         }
     }
 
+    // Puts a digit.
+    #[tactic(auto, using(crate::proofs::Adding::digit_own))]
+    fn put_digit(&mut self, digit: u64)
+        requires { digit < 10 }
+        ensures { Adds ((48 + digit) ∷ []) self.old.bytes.items self.new.bytes.items self.old.is_whole self.new.is_whole }
+    {
+        self.put_byte(48 + digit as u8);
+    }
+
     /// Puts the digits of a number.
+    #[tactic(auto, using(crate::proofs::Adding::decimal_one, crate::proofs::Adding::decimal_more))]
     pub fn put_number(&mut self, number: u64)
         ensures { Adds (decimal number) self.old.bytes.items self.new.bytes.items self.old.is_whole self.new.is_whole }
     {
-        if number >= 10 {
-            self.put_number(number / 10);
+        if number < 10 {
+            return self.put_digit(number);
         }
-        self.put_byte(48 + (number % 10) as u8);
+        self.put_number(number / 10);
+        self.put_digit(number % 10);
     }
 
     /// Puts an amount in dollars. Nothing is rounded.

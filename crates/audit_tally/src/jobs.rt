@@ -73,6 +73,7 @@ impl Jobs {
         if place(number) != Some(self.rows.len()) {
             return Ok(());
         }
+        let ordered = day;
         let job = Job {
             device,
             piece,
@@ -81,7 +82,7 @@ impl Jobs {
             state: JobState::Ordered,
             day,
             printed: false,
-            ordered: day,
+            ordered,
             held: false,
             begun: false,
         };
