@@ -57,8 +57,13 @@ impl Facts {
 
     /// Keeps the day of a line.
     pub fn date(&mut self, day: Option<DayNo>) {
-        self.first = self.first.or(day);
-        self.last = day.or(self.last);
+        let Some(day) = day else {
+            return;
+        };
+        if self.first.is_none() {
+            self.first = Some(day);
+        }
+        self.last = Some(day);
     }
 
     /// Ends a run of which nothing was found. AllocError is lack of memory.

@@ -1,5 +1,5 @@
 -- The bytes of a page, and what each entry of the sheet adds to it.
-use Rattle.std.specs.Prelude.{◌≡◌, ℕ, ◌+◌, ◌-◌, ◌*◌, ◌/◌, ◌^◌, Bool, true, false, ◌&&◌, ◌||◌, nat_le, nat_lt, ◌==◌, if◌then◌else◌, List, [], ◌∷◌, ◌++◌, length, take, drop, flat_map, codes}
+use Rattle.std.specs.Prelude.{◌≡◌, ◌⊎◌, ℕ, ◌+◌, ◌-◌, ◌*◌, ◌/◌, Bool, true, ◌&&◌, ◌||◌, nat_le, nat_lt, ◌==◌, if◌then◌else◌, List, [], ◌∷◌, ◌++◌, length, take, drop, flat_map, codes}
 use Rattle.audit_words.specs.Shown.{shown_bytes}
 
 -- the byte is printable ASCII or a line end
@@ -43,3 +43,21 @@ pub record Adds (added before after : List ℕ) (was is : Bool) : Type 0 where
 abbrev pub read_on : ℕ → List ℕ → ℕ
 read_on number [] = number
 read_on number (byte ∷ rest) = read_on (if nat_le 48 byte && nat_le byte 57 then number * 10 + (byte - 48) else number) rest
+
+-- A TEXT IS ADDED WHOSE DIGITS READ ON from any number as this one, with so many places
+pub record AddsDigits (number places : ℕ) (before after : List ℕ) (was is : Bool) : Type 0 where
+  pub text : List ℕ
+  pub adds : Adds text before after was is
+  pub reads : (n : ℕ) → read_on n text ≡ n * places + number
+
+-- A TEXT IS ADDED WHOSE DIGITS ARE THIS NUMBER
+pub record AddsNumber (number : ℕ) (before after : List ℕ) (was is : Bool) : Type 0 where
+  pub text : List ℕ
+  pub adds : Adds text before after was is
+  pub reads : read_on 0 text ≡ number
+
+-- AN AMOUNT IS ADDED: the digits of its text are the mills, or, if the third decimal is left out, a tenth of them with nothing left over
+pub record AddsMills (mills : ℕ) (before after : List ℕ) (was is : Bool) : Type 0 where
+  pub text : List ℕ
+  pub adds : Adds text before after was is
+  pub reads : (read_on 0 text ≡ mills) ⊎ (read_on 0 text * 10 ≡ mills)

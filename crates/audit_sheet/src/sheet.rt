@@ -1,8 +1,8 @@
 //! The sheet, and its four entries.
-ghost use Rattle.std.specs.Prelude.{◌≡◌, ◌+◌, ◌<◌, [], ◌∷◌, flat_map, All};
+ghost use Rattle.std.specs.Prelude.{◌≡◌, ◌+◌, ◌<◌, [], ◌∷◌, flat_map, unsigned_abs, All};
 ghost use Rattle.std.specs.Fmt.{decimal};
 ghost use Rattle.audit_sheet.specs.Sheets as sheets;
-ghost use Rattle.audit_sheet.specs.Sheets.{Adds, IsSafe, own_byte, own_bytes, escaped, shown_of};
+ghost use Rattle.audit_sheet.specs.Sheets.{Adds, AddsMills, IsSafe, own_byte, own_bytes, escaped, shown_of};
 
 use crate::grouping::put_dollars;
 use audit_words::shown;
@@ -141,11 +141,15 @@ impl Sheet {
     }
 
     /// Puts an amount in dollars. Nothing is rounded.
-    pub fn put_mills(&mut self, mills: i128) {
-        if mills < 0 {
-            self.put_own("&minus;");
-        }
+    #[tactic(auto, using(crate::proofs::Reading::with_minus))]
+    pub fn put_mills(&mut self, mills: i128)
+        ensures { AddsMills (unsigned_abs mills) self.old.bytes.items self.new.bytes.items self.old.is_whole self.new.is_whole }
+    {
         let has_mills = self.has_mills;
+        if mills >= 0 {
+            return put_dollars(self, mills.unsigned_abs(), has_mills);
+        }
+        self.put_own("&minus;");
         put_dollars(self, mills.unsigned_abs(), has_mills);
     }
 

@@ -1,4 +1,3 @@
-use Rattle.std.proofs.Common.{ℕ}
 use Rattle.audit_sheet.proofs.grouping.+put_grouped.Given as goal
 
 abbrev pub decreases-put_grouped : goal.decreases-put_grouped

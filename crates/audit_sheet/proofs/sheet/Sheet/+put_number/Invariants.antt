@@ -1,4 +1,3 @@
-use Rattle.std.proofs.Common.{ℕ}
 use Rattle.audit_sheet.proofs.sheet.Sheet.+put_number.Given as goal
 
 abbrev pub decreases-put_number : goal.decreases-put_number

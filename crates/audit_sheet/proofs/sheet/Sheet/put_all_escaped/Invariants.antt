@@ -1,4 +1,4 @@
-use Rattle.std.proofs.Common.{◌≡◌, take}
+use Rattle.std.proofs.Common.{take}
 use Rattle.std.specs.Prelude.{flat_map}
 use Rattle.audit_sheet.specs.Sheets.{Adds, escaped}
 use Rattle.audit_sheet.proofs.sheet.Sheet.put_all_escaped.Given as goal
