@@ -5,6 +5,7 @@ use crate::seen::Seen;
 use crate::settling::{
     with_asked, with_class, with_job, with_money, with_piece, with_request, with_ruling,
 };
+use audit_facts::Facts;
 use audit_journal::{At, BookFault, CommitKind, Form, Journal, JournalEntry, Row, place_of};
 use audit_tally::{
     Ask, Causes, Doing, Incidents, Job, Jobs, Mishap, Outcome, Piece, Pieces, Place, Sends, Tally,
@@ -40,6 +41,8 @@ pub struct Book {
     pub ungranted: Vec<Ungranted>,
     pub jobs: Jobs,
     pub pieces: Pieces,
+    /// What the page of an audit shows besides.
+    pub facts: Facts,
     /// For each device, from device 1 on, what it asked last.
     asks: [Option<Ask>; 8],
     sends: Sends,
@@ -147,9 +150,10 @@ fn completed(entry: &JournalEntry, seen: &Seen) -> JournalEntry {
 }
 
 impl Book {
-    /// A book without a line, and a journal of this form. AllocError is lack of memory.
-    pub fn new(alloc: Global, form: Form) -> Result<Book, AllocError> {
+    /// A book without a line, and a journal of this form; what the page of an audit shows besides is kept, or not. AllocError is lack of memory.
+    pub fn new(alloc: Global, form: Form, has_facts: bool) -> Result<Book, AllocError> {
         let pieces = Pieces::new(alloc)?;
+        let facts = Facts::new(alloc, has_facts)?;
         Ok(Book {
             first_day: None,
             last_day: None,
@@ -164,6 +168,7 @@ impl Book {
             ungranted: Vec::new(alloc),
             jobs: Jobs::new(alloc),
             pieces,
+            facts,
             asks: [None; 8],
             sends: Sends::new(alloc),
             open: [None; 11],
@@ -178,6 +183,7 @@ impl Book {
 
     /// Begins a run: no message was sent in it.
     pub fn begin_run(&mut self) {
+        self.facts.begin();
         self.sends.begin();
     }
 
@@ -207,6 +213,20 @@ impl Book {
         Ok(())
     }
 
+    // Keeps what the line refuses. An `off` of a node that is off is no refusal.
+    fn hear_refusal(
+        &mut self,
+        place: Place,
+        day: Option<DayNo>,
+        doing: &Doing,
+        line: &[u8],
+    ) -> Result<(), BookFault> {
+        if let Doing::Off = doing {
+            return Ok(());
+        }
+        or_memory(self.facts.refuse(place, day, line))
+    }
+
     /// Counts what the line reports on this day, if this answer was due. BookFault::Memory is lack of memory.
     pub fn hear(
         &mut self,
@@ -218,6 +238,7 @@ impl Book {
         line: &[u8],
     ) -> Result<(), BookFault> {
         if is_told(due, line) {
+            self.hear_refusal(place, day, doing, line)?;
             return self.hear_answer(alloc, place, due, line);
         }
         match mishap_at(printing(doing), line) {
@@ -228,6 +249,7 @@ impl Book {
 
     /// Counts the day that was reported last.
     pub fn date(&mut self, day: Option<DayNo>) {
+        self.facts.date(day);
         self.first_day = known_day(&self.first_day, &day);
         self.last_day = known_day(&day, &self.last_day);
     }
@@ -499,6 +521,9 @@ impl Book {
         place: Place,
         entry: JournalEntry,
     ) -> Result<(), BookFault> {
+        if let CommitKind::Printed = entry.commit {
+            or_memory(self.facts.print(place, entry.number))?;
+        }
         let Some(at) = at_of(names, place) else {
             return Ok(());
         };
@@ -521,6 +546,7 @@ impl Book {
     ) -> Result<(), BookFault> {
         let entry = completed(&made.entry, seen);
         self.keep(made.place, &entry)?;
+        or_memory(self.facts.enter(&entry))?;
         let Some(at) = at_of(names, made.place) else {
             return Ok(());
         };

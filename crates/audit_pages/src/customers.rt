@@ -7,9 +7,9 @@ use trace_bench::Auditor;
 
 /// What a customer's devices bought and gave back.
 #[derive(Clone, Copy)]
-struct Trade {
-    bought: u64,
-    returned: u64,
+pub(crate) struct Trade {
+    pub bought: u64,
+    pub returned: u64,
 }
 
 // Adds what the device bought and gave back, if it is the customer's. All sums of a centre fit.
@@ -23,7 +23,8 @@ fn add_device(auditor: &Auditor, trade: &mut Trade, device: DevNo, customer: Cus
     }
 }
 
-fn trade_of(auditor: &Auditor, customer: Customer) -> Trade {
+/// What the customer's devices bought and gave back.
+pub(crate) fn trade_of(auditor: &Auditor, customer: Customer) -> Trade {
     let mut trade = Trade {
         bought: 0,
         returned: 0,

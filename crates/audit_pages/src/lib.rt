@@ -9,7 +9,9 @@ mod money;
 mod page;
 mod rulings;
 mod saying;
+mod standing;
 mod table;
 
 pub use page::tell_page;
+pub use standing::standing_of;
 pub use table::tell_table;

@@ -119,12 +119,17 @@ fn tell_print(
 
 impl Recount {
     /// A clerk that went over no run, and a journal of this form. What is sent and released is kept, or not, which what is counted does not
-    /// need. AllocError is lack of memory.
-    pub fn new(alloc: Global, form: Form, is_kept: bool) -> Result<Recount, AllocError>
+    /// need; and so is what the page of an audit shows besides. AllocError is lack of memory.
+    pub fn new(
+        alloc: Global,
+        form: Form,
+        is_kept: bool,
+        has_facts: bool,
+    ) -> Result<Recount, AllocError>
         ensures ready { IfOk result (λ c. IsReady (audit_of c.auditor)) }
     {
         let auditor = Auditor::new(alloc, is_kept)?;
-        let book = Book::new(alloc, form)?;
+        let book = Book::new(alloc, form, has_facts)?;
         Ok(Recount { auditor, book })
     }
 

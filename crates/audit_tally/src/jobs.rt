@@ -15,6 +15,10 @@ pub struct Job {
     /// The day when it came so far.
     pub day: Option<DayNo>,
     pub printed: bool,
+    /// The day on which it was ordered, whether it held its mark, and whether its print was begun.
+    pub ordered: Option<DayNo>,
+    pub held: bool,
+    pub begun: bool,
 }
 
 impl Job {
@@ -69,6 +73,7 @@ impl Jobs {
         if place(number) != Some(self.rows.len()) {
             return Ok(());
         }
+        let ordered = day;
         let job = Job {
             device,
             piece,
@@ -77,6 +82,9 @@ impl Jobs {
             state: JobState::Ordered,
             day,
             printed: false,
+            ordered,
+            held: false,
+            begun: false,
         };
         self.rows.push(job)?;
         Ok(())
@@ -90,6 +98,8 @@ impl Jobs {
         if let Some(row) = self.rows.get_mut(at) {
             row.state = state;
             row.day = day;
+            row.held = row.held || state == JobState::Held;
+            row.begun = row.begun || state == JobState::Begun;
         }
     }
 

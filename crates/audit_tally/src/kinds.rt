@@ -9,6 +9,8 @@ use psd_wire::{DebitMsg, Message, read_message};
 #[derive(Clone, Copy)]
 pub enum Doing {
     On(Node),
+    /// A node is switched off.
+    Off,
     /// What a device asks, and the amount of a reset, in mills.
     Ask {
         kind: Kind,
@@ -42,6 +44,7 @@ fn given(bytes: &[u8]) -> Doing {
 pub fn doing_of(event: &Event) -> Doing {
     match event {
         Event::On(node) => Doing::On(*node),
+        Event::Off(_) => Doing::Off,
         Event::Ask { kind, amount, .. } => Doing::Ask {
             kind: *kind,
             amount: *amount,
@@ -63,7 +66,6 @@ pub fn doing_of(event: &Event) -> Doing {
         Event::Day(_)
         | Event::Rates
         | Event::Make { .. }
-        | Event::Off(_)
         | Event::Cut { .. }
         | Event::Resend(_)
         | Event::Ack(_)

@@ -13,6 +13,7 @@ pub enum Asked {
     Nothing,
     Table,
     Page,
+    Html,
     Csv,
     Json,
     Ledger,
@@ -80,6 +81,7 @@ fn asked_by(word: &str) -> Option<Asked> {
     match word {
         "--table" => Some(Asked::Table),
         "--page" => Some(Asked::Page),
+        "--html" => Some(Asked::Html),
         "--csv" => Some(Asked::Csv),
         "--json" => Some(Asked::Json),
         "--ledger" => Some(Asked::Ledger),

@@ -23,6 +23,7 @@ options, in any order
 at most one of
   --table          each device, customer and node after the runs
   --page           what the runs came to, each cut and fault, and the digest
+  --html           the same as one page for a browser, also with a finding
   --csv, --json    the journal: a row for each commit
   --ledger         the journal as hledger reads it
   --due            the answers that were due at the end of the last run, which was stopped

@@ -10,6 +10,7 @@ mod faults;
 mod files;
 mod folders;
 mod judging;
+mod page;
 mod plan;
 mod prints;
 mod runs;
@@ -28,8 +29,9 @@ use bench_base::numbers::DevNo;
 use bench_base::words::Node;
 use checking::check;
 use faults::{Fault, code_of, or_book, or_memory, or_write};
+use page::tell_html;
 use plan::{Plan, plan_of};
-use prints::judge_prints;
+use prints::{Said, judge_prints};
 use runs::{Gathered, judge_all, say, say_finding};
 use seen::{SeenFile, read_seen, tell_seen};
 use std::process::ExitCode;
@@ -56,7 +58,7 @@ fn given_words(rt: &HostRuntime) -> Result<Vec<String>, Fault> {
 
 fn form_of(asked: Asked) -> Form {
     match asked {
-        Asked::Nothing | Asked::Table | Asked::Page | Asked::Due => Form::None,
+        Asked::Nothing | Asked::Table | Asked::Page | Asked::Html | Asked::Due => Form::None,
         Asked::Csv => Form::Csv,
         Asked::Json => Form::Json,
         Asked::Ledger => Form::Ledger,
@@ -98,11 +100,18 @@ fn tell_prints(rt: &HostRuntime, plan: &mut Plan, gathered: &mut Gathered) -> Re
         gathered.ends.as_slice(),
         gathered.imprints.as_slice(),
     )?;
-    if said.is_finding {
-        return Ok(say_finding(rt, plan.asked, said.text.as_str()));
+    let Said {
+        text,
+        is_finding,
+        is_open,
+        page,
+    } = said;
+    gathered.prints = Some(page);
+    if is_finding {
+        return Ok(say_finding(rt, plan.asked, text.as_str()));
     }
-    gathered.is_undecided = gathered.is_undecided || said.is_open;
-    say(rt, plan.asked, said.text.as_str())?;
+    gathered.is_undecided = gathered.is_undecided || is_open;
+    say(rt, plan.asked, text.as_str())?;
     Ok(0)
 }
 
@@ -145,9 +154,11 @@ fn tell_below(
     gathered: &Gathered,
 ) -> Result<(), Fault>
     requires ready { IsReady (audit_of auditor.now) }
+    requires ready_clerk { IsReady (audit_of clerk.now.auditor) }
 {
     match plan.asked {
         Asked::Nothing | Asked::Csv | Asked::Json | Asked::Ledger | Asked::Due => Ok(()),
+        Asked::Html => tell_html(rt, plan, clerk, gathered),
         Asked::Table => or_book(tell_table(rt, auditor, gathered.day)),
         Asked::Page => or_book(tell_page(
             rt,
@@ -158,6 +169,19 @@ fn tell_below(
             gathered.day,
         )),
     }
+}
+
+// Writes the page of a finding, if one is asked for: the exit status of a finding, which is the same if it can't be written.
+fn tell_found(rt: &HostRuntime, plan: &Plan, clerk: &Recount, gathered: &Gathered) -> u8
+    requires ready { IsReady (audit_of clerk.now.auditor) }
+{
+    if plan.asked != Asked::Html {
+        return FINDING;
+    }
+    if let Err(fault) = tell_html(rt, plan, clerk, gathered) {
+        let _ = eprintln!(rt; "{fault}");
+    }
+    FINDING
 }
 
 // Judges what was planned over these auditors: the exit status.
@@ -174,12 +198,12 @@ fn judge_words(
     let seen = read_marks(rt, &plan, auditor)?;
     let mut gathered = Gathered::new(rt.alloc());
     if judge_all(rt, &plan, auditor, clerk, &mut gathered)? != 0 {
-        return Ok(FINDING);
+        return Ok(tell_found(rt, &plan, clerk, &gathered));
     }
     let prints_code = tell_prints(rt, &mut plan, &mut gathered)?;
     let marks_code = tell_marks(rt, &plan, auditor, seen)?;
     if prints_code != 0 || marks_code != 0 {
-        return Ok(FINDING);
+        return Ok(tell_found(rt, &plan, clerk, &gathered));
     }
     tell_below(rt, &plan, auditor, clerk, &gathered)?;
     let is_undecided = gathered.is_undecided || is_in_doubt(auditor);
@@ -220,12 +244,13 @@ fn has_bytes(planned: &Result<Plan, Fault>) -> bool {
 // Judges what the words name.
 fn audit(rt: &HostRuntime, words: Words) -> Result<u8, Fault> {
     let form = form_of(words.asked);
+    let has_facts = words.asked == Asked::Html;
     let planned = plan_of(rt, words);
     let is_kept = has_bytes(&planned);
     let Ok(mut auditor) = Auditor::new(rt.alloc(), is_kept) else {
         return Err(Fault::Memory);
     };
-    let Ok(mut clerk) = Recount::new(rt.alloc(), form, is_kept) else {
+    let Ok(mut clerk) = Recount::new(rt.alloc(), form, is_kept, has_facts) else {
         return Err(Fault::Memory);
     };
     or_book(clerk.book.begin())?;

@@ -22,11 +22,11 @@ pub struct Plan {
     pub has_bytes: bool,
 }
 
-/// Whether a journal goes to standard output, or what was due; verdicts then go to standard error.
+/// Whether a journal goes to standard output, a page for a browser, or what was due; verdicts then go to standard error.
 pub fn takes_output(asked: Asked) -> bool {
     match asked {
         Asked::Nothing | Asked::Table | Asked::Page => false,
-        Asked::Csv | Asked::Json | Asked::Ledger | Asked::Due => true,
+        Asked::Html | Asked::Csv | Asked::Json | Asked::Ledger | Asked::Due => true,
     }
 }
 
@@ -34,7 +34,7 @@ pub fn takes_output(asked: Asked) -> bool {
 pub fn is_counted(asked: Asked) -> bool {
     match asked {
         Asked::Nothing | Asked::Table => false,
-        Asked::Page | Asked::Csv | Asked::Json | Asked::Ledger | Asked::Due => true,
+        Asked::Page | Asked::Html | Asked::Csv | Asked::Json | Asked::Ledger | Asked::Due => true,
     }
 }
 

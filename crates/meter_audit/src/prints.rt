@@ -1,6 +1,7 @@
 //! Whether a file has the prints of all runs, and what is said of it.
 use crate::faults::{Fault, or_memory};
 use crate::files::first_bytes;
+use audit_facts::{PrintsSaid, PrintsState};
 use audit_words::{shown, shown_text};
 use memchr::memchr;
 use std::alloc::{AllocError, Global};
@@ -31,6 +32,8 @@ pub struct Said {
     pub is_finding: bool,
     /// Whether the prints were judged in part.
     pub is_open: bool,
+    /// The same for a page.
+    pub page: PrintsSaid,
 }
 
 /// The line of a print: the name of its run, as it is shown, and its number there.
@@ -62,14 +65,78 @@ fn mark_text(alloc: Global, mark: &[u8; 64]) -> Result<String, AllocError> {
     shown(alloc, &digits)
 }
 
-// The name of the run that has this imprint, where the runs have so many up to each.
-fn run_of<'a>(names: &'a [String], ends: &[usize], place: usize) -> &'a str {
-    for run in 0..names.len().min(ends.len()) {
+// The run that has this imprint, where the runs have so many up to each.
+fn run_at(ends: &[usize], place: usize) -> usize {
+    for run in 0..ends.len() {
         if place < ends[run] {
-            return names[run].as_str();
+            return run;
         }
     }
-    ""
+    ends.len()
+}
+
+// The name of the run that has this imprint, where the runs have so many up to each.
+fn run_of<'a>(names: &'a [String], ends: &[usize], place: usize) -> &'a str {
+    match names.get(run_at(ends, place)) {
+        Some(name) => name.as_str(),
+        None => "",
+    }
+}
+
+// How many lines these are.
+fn lines_in(prints: &[u8]) -> u64 {
+    let mut lines = 0u64;
+    for byte in prints.iter() {
+        lines = lines.saturating_add(u64::from(*byte == b'\n'));
+    }
+    lines
+}
+
+// What a page says of prints by what was found.
+fn page_of(
+    file: String,
+    ends: &[usize],
+    imprints: &[Imprint],
+    prints: &[u8],
+    found: Match,
+) -> PrintsSaid {
+    let place = match found {
+        Match::Fit => imprints.len(),
+        Match::Differ(place) | Match::Open(place) => place,
+    };
+    let imprint = imprints.get(place);
+    let state = match (found, imprint) {
+        (Match::Fit, _) => PrintsState::Fit,
+        (Match::Open(_), _) => PrintsState::Open,
+        (Match::Differ(_), Some(_)) => PrintsState::Differ,
+        (Match::Differ(_), None) => PrintsState::GoOn,
+    };
+    PrintsSaid {
+        state,
+        file,
+        is_stopped: is_stopped(imprint),
+        run: run_at(ends, place),
+        line: line_of(imprint),
+        number: (place as u64).saturating_add(1),
+        marks: imprints.len() as u64,
+        lines: lines_in(prints),
+    }
+}
+
+// Whether the run was stopped before the answer to the print.
+fn is_stopped(imprint: Option<&Imprint>) -> bool {
+    match imprint {
+        Some(imprint) => matches!(imprint.given.taken, Printed::Stopped),
+        None => false,
+    }
+}
+
+// The line of the print.
+fn line_of(imprint: Option<&Imprint>) -> u32 {
+    match imprint {
+        Some(imprint) => imprint.line,
+        None => 0,
+    }
 }
 
 // What is said where the prints differ from those of this imprint, in the place that is shown.
@@ -169,5 +236,6 @@ pub fn judge_prints(
         text,
         is_finding,
         is_open,
+        page: page_of(file, ends, imprints, prints.as_slice(), found),
     })
 }

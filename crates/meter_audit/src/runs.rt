@@ -5,8 +5,10 @@ use crate::digest::{NO_RUNS, Sum, digest_with};
 use crate::faults::{Fault, or_book, or_memory, or_write};
 use crate::files::{changed, open_of, rates_of, unusable_of, whole_run};
 use crate::judging::{Judged, Outcome, judge_over};
+use crate::page::{keep_run, run_finding};
 use crate::plan::{Plan, is_counted, takes_output};
 use crate::verdicts::{FINDING, is_finding, is_undecided, stopped_at, verdict_text};
+use audit_facts::{PrintsSaid, RunFinding};
 use audit_recount::{Recount, Run, put_due};
 use audit_words::{Asked, shown_text};
 use bench_base::numbers::DayNo;
@@ -28,6 +30,9 @@ pub struct Gathered {
     pub day: Option<DayNo>,
     /// Whether a run left something undecided that no later run decides.
     pub is_undecided: bool,
+    /// For a page: what was found in a run, and what is said of prints.
+    pub finding: Option<RunFinding>,
+    pub prints: Option<PrintsSaid>,
 }
 
 impl Gathered {
@@ -39,6 +44,8 @@ impl Gathered {
             digests: Vec::new(alloc),
             day: None,
             is_undecided: false,
+            finding: None,
+            prints: None,
         }
     }
 }
@@ -168,9 +175,13 @@ fn count(
 {
     match plan.asked {
         Asked::Due => tell_due(rt, plan, &mut clerk.auditor, place, run, stopped),
-        Asked::Nothing | Asked::Table | Asked::Page | Asked::Csv | Asked::Json | Asked::Ledger => {
-            or_book(clerk.go_over(rt, plan.names.as_slice(), place, run, stopped))
-        }
+        Asked::Nothing
+        | Asked::Table
+        | Asked::Page
+        | Asked::Html
+        | Asked::Csv
+        | Asked::Json
+        | Asked::Ledger => or_book(clerk.go_over(rt, plan.names.as_slice(), place, run, stopped)),
     }
 }
 
@@ -214,10 +225,14 @@ fn judge_next(
     gathered.gather(&judged, auditor.day())?;
     let code = tell(rt, plan.asked, name, &judged)?;
     if code != 0 {
+        gathered.finding = run_finding(rt.alloc(), &judged, place, auditor.day(), run);
         return Ok(code);
     }
     gathered.digest(&run)?;
     count(rt, plan, clerk, place, &run, stopped_at(&judged))?;
+    if plan.asked == Asked::Html {
+        keep_run(rt.alloc(), &mut clerk.book, &judged, &run)?;
+    }
     Ok(0)
 }
 

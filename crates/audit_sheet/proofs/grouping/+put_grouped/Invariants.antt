@@ -1,0 +1,4 @@
+use Rattle.audit_sheet.proofs.grouping.+put_grouped.Given as goal
+
+abbrev pub decreases-put_grouped : goal.decreases-put_grouped
+decreases-put_grouped l = l.number
