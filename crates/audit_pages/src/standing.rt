@@ -60,15 +60,21 @@ fn asked_on(book: &Book, device: DevNo) -> Option<DayNo> {
     book.ask_of(device)?.day
 }
 
-// What there is of a device, if it was made.
-fn device_at(auditor: &Auditor, book: &Book, device: DevNo, day: DayNo) -> Option<DeviceStanding>
+// What there is of a device of this customer, if it was made.
+fn device_at(
+    auditor: &Auditor,
+    book: &Book,
+    device: DevNo,
+    customer: Option<Customer>,
+    day: DayNo,
+) -> Option<DeviceStanding>
     requires ready { IsReady (audit_of auditor.now) }
 {
     let view = auditor.shown_of(device, day)?;
     let pair = between(auditor, device, &view);
     Some(DeviceStanding {
         device,
-        customer: owner_of(auditor, device),
+        customer,
         phase: view.phase,
         ascending: view.ascending,
         descending: view.descending,
@@ -97,7 +103,8 @@ fn devices_of(
     };
     for number in 1..9 {
         if let Some(device) = DevNo::new(number) {
-            if let Some(standing) = device_at(auditor, book, device, day) {
+            let customer = owner_of(auditor, device);
+            if let Some(standing) = device_at(auditor, book, device, customer, day) {
                 devices.push(standing)?;
             }
         }
