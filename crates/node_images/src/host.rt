@@ -1,61 +1,18 @@
 //! The host's jobs in the bytes of a cell.
-ghost use Rattle.std.specs.Prelude.{◌≡◌, ◌≢◌, ◌<◌, None, Some, true, false, length};
-ghost use Rattle.host_jobs.specs.Payload.{JobReadsAs};
+ghost use Rattle.std.specs.Prelude.{◌≡◌, ◌<◌, None, Some, true, false, length, IfSome};
 ghost use Rattle.host_jobs.specs.Seen as host;
 ghost use Rattle.host_node.specs.Payloads.{IsPayloadOf};
-ghost use Rattle.node_images.specs.Cells.{ShowsCell};
+ghost use Rattle.bench_base.specs.declared.sizes.TheConstants.{MOST_COMMITS};
+ghost use Rattle.node_acts.specs.RowList.{commits_at};
+ghost use Rattle.node_images.specs.Cells.{ShowsCell, ShowsOpen, CellIs};
 
+use crate::cell::CellShows;
 use host_jobs::{JOB_BYTES, JobRow, cell_of};
 use nv_bytes::{copy_newest, is_blank};
+use payload_rows::reads_as_job;
 
-fn same_mark(one: &Option<[u8; 64]>, other: &Option<[u8; 64]>) -> bool
-    ensures yes { result ≡ true → one.now ≡ other.now }
-    ensures no { result ≡ false → one.now ≢ other.now }
-{
-    match (one, other) {
-        (Some(one), Some(other)) => *one == *other,
-        (None, None) => true,
-        _ => false,
-    }
-}
-
-// Whether what was ordered is the same.
-fn same_order(one: &JobRow, other: &JobRow) -> bool
-    ensures yes { result ≡ true → (one.now.job ≡ other.now.job) × (one.now.device ≡ other.now.device) × (one.now.piece ≡ other.now.piece)
-        × (one.now.postage ≡ other.now.postage) × (one.now.class ≡ other.now.class) }
-    ensures no { result ≡ false → one.now ≢ other.now }
-{
-    one.job == other.job
-        && one.device.get() == other.device.get()
-        && one.piece == other.piece
-        && one.postage == other.postage
-        && one.class == other.class
-}
-
-fn same_job(one: &JobRow, other: &JobRow) -> bool
-    ensures yes { result ≡ true → one.now ≡ other.now }
-    ensures no { result ≡ false → one.now ≢ other.now }
-{
-    same_order(one, other)
-        && one.state == other.state
-        && one.tops == other.tops
-        && same_mark(&one.indicium, &other.indicium)
-}
-
-// Whether a payload of this cell reads as this job.
-fn reads_as(cell: u32, payload: &[u8; JOB_BYTES], due: &JobRow) -> bool
-    requires own { host.cell_of due.now ≡ cell }
-    ensures yes { result ≡ true → JobReadsAs payload.now due.now }
-    ensures no { result ≡ false → JobReadsAs payload.now due.now → ⊥ }
-{
-    match JobRow::read_payload(cell, payload) {
-        Some(found) => same_job(&found, due),
-        None => false,
-    }
-}
-
-/// Whether the bytes of a cell of the host show no commit.
-pub fn shows_no_job(cell: &[u8], place: usize) -> bool
+// Whether the bytes of a cell of the host show no commit.
+fn shows_no_job(cell: &[u8], place: usize) -> bool
     requires long { length cell.now ≡ 240 }
     ensures yes { result ≡ true → ShowsCell 115 (IsPayloadOf place) None cell.now }
     ensures no { result ≡ false → ShowsCell 115 (IsPayloadOf place) None cell.now → ⊥ }
@@ -63,19 +20,91 @@ pub fn shows_no_job(cell: &[u8], place: usize) -> bool
     is_blank(cell, 2, JOB_BYTES)
 }
 
-/// Whether the bytes of the cell at this place show so many commits and this job.
-pub fn shows_job(cell: &[u8], place: usize, count: u32, due: &JobRow) -> bool
+// Whether the job lies in the cell at this place.
+fn is_in(place: usize, due: &JobRow) -> bool
+    requires { place < 1024 }
+    ensures yes { result ≡ true → host.cell_of due.now ≡ place }
+    ensures no { result ≡ false → host.cell_of due.now ≡ place → ⊥ }
+{
+    cell_of(due.job) as usize == place
+}
+
+// Whether the bytes of the cell at this place show so many commits and this job.
+fn shows_job(cell: &[u8], place: usize, count: u32, due: &JobRow) -> bool
     requires long { length cell.now ≡ 240 }
     requires inside { place < 1024 }
     ensures yes { result ≡ true → ShowsCell 115 (IsPayloadOf place) (Some (count, due.now)) cell.now }
     ensures no { result ≡ false → ShowsCell 115 (IsPayloadOf place) (Some (count, due.now)) cell.now → ⊥ }
 {
-    if cell_of(due.job) as usize != place {
+    if !is_in(place, due) {
         return false;
     }
     let mut payload = [0; JOB_BYTES];
     if !copy_newest(cell, 2, JOB_BYTES, count, &mut payload) {
         return false;
     }
-    reads_as(place as u32, &payload, due)
+    reads_as_job(place as u32, &payload, due)
+}
+
+// Whether the cell at this place shows this.
+fn shows_seen(cell: &[u8], place: usize, seen: &Option<(u32, JobRow)>) -> bool
+    requires long { length cell.now ≡ 240 }
+    requires inside { place < 1024 }
+    ensures yes { result ≡ true → ShowsCell 115 (IsPayloadOf place) seen.now cell.now }
+    ensures no { result ≡ false → ShowsCell 115 (IsPayloadOf place) seen.now cell.now → ⊥ }
+{
+    match seen {
+        None => shows_no_job(cell, place),
+        Some((count, row)) => shows_job(cell, place, *count, row),
+    }
+}
+
+fn count_of(seen: &Option<(u32, JobRow)>) -> u32
+    ensures { result ≡ commits_at seen.now }
+{
+    match seen {
+        None => 0,
+        Some((count, _)) => *count,
+    }
+}
+
+// Whether the cell shows what was counted, with the job that is in doubt, if there is one.
+fn shows_changed(
+    cell: &[u8],
+    place: usize,
+    seen: &Option<(u32, JobRow)>,
+    changed: &Option<JobRow>,
+) -> bool
+    requires long { length cell.now ≡ 240 }
+    requires inside { place < 1024 }
+    requires fresh { IfSome changed.now (λ x. commits_at seen.now < MOST_COMMITS) }
+    ensures yes { result ≡ true → ShowsOpen 115 (IsPayloadOf place) seen.now changed.now cell.now }
+    ensures no { result ≡ false → ShowsOpen 115 (IsPayloadOf place) seen.now changed.now cell.now → ⊥ }
+{
+    match changed {
+        None => false,
+        Some(row) => shows_seen(cell, place, &Some((count_of(seen) + 1, *row))),
+    }
+}
+
+/// What the bytes of the host's cell at this place show, by its commits and its job, and by the job in doubt of this cell, if there is one.
+pub fn host_cell(
+    cell: &[u8],
+    place: usize,
+    seen: &Option<(u32, JobRow)>,
+    changed: &Option<JobRow>,
+) -> CellShows
+    requires long { length cell.now ≡ 240 }
+    requires inside { place < 1024 }
+    requires fresh { IfSome changed.now (λ x. commits_at seen.now < MOST_COMMITS) }
+    ensures { CellIs 115 (IsPayloadOf place) seen.now changed.now cell.now result }
+{
+    if shows_seen(cell, place, seen) {
+        return CellShows::Counted;
+    }
+    if shows_changed(cell, place, seen, changed) {
+        CellShows::Open
+    } else {
+        CellShows::Other
+    }
 }

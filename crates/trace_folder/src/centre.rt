@@ -1,19 +1,16 @@
 //! The centre's cells, by the auditor's rows.
+ghost use Rattle.std.specs.Prelude.{◌≡◌, ◌<◌, length};
+ghost use Rattle.node_acts.specs.RowList.{row_at};
+ghost use Rattle.centre_protocol.specs.Payloads.{IsPayloadOf};
+ghost use Rattle.trace_centre.specs.Cells.{IsSettled, cells_of};
+ghost use Rattle.node_images.specs.Cells.{CellIs};
+ghost use Rattle.trace_folder.specs.Changes as changes;
+
 use crate::due::{Due, due_by};
-use crate::shows::CellShows;
 use centre_ledger::Row;
-use node_images::{shows_customer, shows_device_row, shows_no_row};
+use node_images::{CellShows, centre_cell as cell_shows};
 use trace_centre::{CentreRecord, cell_of};
 use trace_nodes::Traced;
-
-// Whether the cell at this place shows this.
-fn shows_seen(cell: &[u8], place: usize, seen: &Option<(u32, Row)>) -> bool {
-    match seen {
-        None => shows_no_row(cell, place),
-        Some((count, Row::Device(row))) => shows_device_row(cell, place, *count, row),
-        Some((count, Row::Customer(row))) => shows_customer(cell, place, *count, row),
-    }
-}
 
 fn count_of(seen: &Option<(u32, Row)>) -> u32 {
     match seen {
@@ -22,27 +19,31 @@ fn count_of(seen: &Option<(u32, Row)>) -> u32 {
     }
 }
 
-// What is seen of a cell once the row is committed to it.
-fn with_row(seen: &Option<(u32, Row)>, row: &Row) -> Option<(u32, Row)> {
-    Some((count_of(seen) + 1, *row))
+// The row in doubt, if it is one of the cell at this place.
+fn changed_at(changed: &Option<Row>, place: usize) -> Option<Row>
+    ensures { result ≡ changes.centre_at place changed.now }
+{
+    match changed {
+        Some(row) if cell_of(row) == place => Some(*row),
+        _ => None,
+    }
 }
 
 /// What the cell at this place shows.
-pub fn centre_cell(traced: &Traced<CentreRecord, Row>, place: usize, cell: &[u8]) -> CellShows {
-    let seen = &traced.record.cells()[place];
-    if shows_seen(cell, place, seen) {
-        return CellShows::Counted;
-    }
-    match &traced.open {
-        Some(row) if cell_of(row) == place && shows_seen(cell, place, &with_row(seen, row)) => {
-            CellShows::Open
-        }
-        _ => CellShows::Other,
-    }
+pub fn centre_cell(traced: &Traced<CentreRecord, Row>, place: usize, cell: &[u8]) -> CellShows
+    requires settled { IsSettled traced.now }
+    requires inside { place < 72 }
+    requires long { length cell.now ≡ 394 }
+    ensures { CellIs 192 (IsPayloadOf place) (row_at (cells_of traced.now.record) place) (changes.centre_at place traced.now.open) cell.now result }
+{
+    let changed = changed_at(&traced.open, place);
+    cell_shows(cell, place, &traced.record.cells()[place], &changed)
 }
 
 /// What the cell at this place should hold.
-pub fn centre_due(traced: &Traced<CentreRecord, Row>, place: usize) -> Due {
+pub fn centre_due(traced: &Traced<CentreRecord, Row>, place: usize) -> Due
+    requires { place < 72 }
+{
     let cell = match &traced.open {
         Some(row) => Some(cell_of(row)),
         None => None,

@@ -1,5 +1,7 @@
 //! What a cell should hold, and what it holds, as far as it is reported.
+ghost use Rattle.std.specs.Prelude.{◌≡◌, ◌<◌, length};
 ghost use Rattle.trace_bench.specs.Seeing.{IsReady, audit_of};
+ghost use Rattle.trace_folder.specs.Storages.{cells_in, width_in};
 
 use crate::centre::centre_due;
 use crate::device::device_due;
@@ -38,6 +40,7 @@ pub fn due_by(count: u32, open: Option<usize>, place: usize) -> Due {
 /// What the cell of the node at this place should hold.
 pub fn due_in(auditor: &Auditor, node: &Node, place: u32) -> Due
     requires ready { IsReady (audit_of auditor.now) }
+    requires inside { place < cells_in node.now }
 {
     match node {
         Node::Device(device) => device_due(auditor.device_node(*device)),
@@ -48,7 +51,9 @@ pub fn due_in(auditor: &Auditor, node: &Node, place: u32) -> Due
 }
 
 /// What the bytes of a cell of the node hold.
-pub fn found_in(node: &Node, cell: &[u8]) -> Found {
+pub fn found_in(node: &Node, cell: &[u8]) -> Found
+    requires { length cell.now ≡ width_in node.now }
+{
     let (slots, size) = (slot_count(node), payload_bytes(node));
     if !is_clear(cell, slots, size) {
         return Found::Mixed;

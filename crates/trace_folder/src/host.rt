@@ -1,18 +1,16 @@
 //! The host's cells, by the auditor's jobs.
+ghost use Rattle.std.specs.Prelude.{◌≡◌, ◌<◌, length};
+ghost use Rattle.node_acts.specs.RowList.{row_at};
+ghost use Rattle.host_node.specs.Payloads.{IsPayloadOf};
+ghost use Rattle.trace_host.specs.Cells.{IsSettled, cells_of};
+ghost use Rattle.node_images.specs.Cells.{CellIs};
+ghost use Rattle.trace_folder.specs.Changes as changes;
+
 use crate::due::{Due, due_by};
-use crate::shows::CellShows;
 use host_jobs::{JobRow, cell_of};
-use node_images::{shows_job, shows_no_job};
+use node_images::{CellShows, host_cell as cell_shows};
 use trace_host::HostRecord;
 use trace_nodes::Traced;
-
-// Whether the cell at this place shows this.
-fn shows_seen(cell: &[u8], place: usize, seen: &Option<(u32, JobRow)>) -> bool {
-    match seen {
-        None => shows_no_job(cell, place),
-        Some((count, row)) => shows_job(cell, place, *count, row),
-    }
-}
 
 fn count_of(seen: &Option<(u32, JobRow)>) -> u32 {
     match seen {
@@ -21,27 +19,31 @@ fn count_of(seen: &Option<(u32, JobRow)>) -> u32 {
     }
 }
 
-// What is seen of a cell once the job is committed to it.
-fn with_job(seen: &Option<(u32, JobRow)>, row: &JobRow) -> Option<(u32, JobRow)> {
-    Some((count_of(seen) + 1, *row))
+// The job in doubt, if it is one of the cell at this place.
+fn changed_at(changed: &Option<JobRow>, place: usize) -> Option<JobRow>
+    ensures { result ≡ changes.host_at place changed.now }
+{
+    match changed {
+        Some(row) if cell_of(row.job) as usize == place => Some(*row),
+        _ => None,
+    }
 }
 
 /// What the cell at this place shows.
-pub fn host_cell(traced: &Traced<HostRecord, JobRow>, place: usize, cell: &[u8]) -> CellShows {
-    let seen = &traced.record.cells()[place];
-    if shows_seen(cell, place, seen) {
-        return CellShows::Counted;
-    }
-    match &traced.open {
-        Some(row)
-            if cell_of(row.job) as usize == place
-                && shows_seen(cell, place, &with_job(seen, row)) => { CellShows::Open }
-        _ => CellShows::Other,
-    }
+pub fn host_cell(traced: &Traced<HostRecord, JobRow>, place: usize, cell: &[u8]) -> CellShows
+    requires settled { IsSettled traced.now }
+    requires inside { place < 1024 }
+    requires long { length cell.now ≡ 240 }
+    ensures { CellIs 115 (IsPayloadOf place) (row_at (cells_of traced.now.record) place) (changes.host_at place traced.now.open) cell.now result }
+{
+    let changed = changed_at(&traced.open, place);
+    cell_shows(cell, place, &traced.record.cells()[place], &changed)
 }
 
 /// What the cell at this place should hold.
-pub fn host_due(traced: &Traced<HostRecord, JobRow>, place: usize) -> Due {
+pub fn host_due(traced: &Traced<HostRecord, JobRow>, place: usize) -> Due
+    requires { place < 1024 }
+{
     let cell = match &traced.open {
         Some(row) => Some(cell_of(row.job) as usize),
         None => None,

@@ -9,4 +9,5 @@ mod shows;
 mod verifier_cells;
 
 pub use due::{Due, Found, due_in, found_in};
-pub use shows::{CellShows, MOST_CELL, Shows, cell_bytes, cell_count, image_shows, shows_cell};
+pub use node_images::CellShows;
+pub use shows::{MOST_CELL, Shows, cell_bytes, cell_count, image_shows, shows_cell};

@@ -1,5 +1,7 @@
 //! What an image of a storage shows, by what was counted and by the commit in doubt.
+ghost use Rattle.std.specs.Prelude.{◌≡◌, ◌<◌, ◌≤◌, ◌+◌, ◌*◌, length};
 ghost use Rattle.trace_bench.specs.Seeing.{IsReady, audit_of};
+ghost use Rattle.trace_folder.specs.Storages.{cells_in, slots_in, size_in, width_in, NodeCellIs};
 
 use crate::centre::centre_cell;
 use crate::device::device_cell;
@@ -11,21 +13,11 @@ use bench_base::sizes::{
 use bench_base::stream::{ReadFail, Source};
 use bench_base::words::Node;
 use host_jobs::{HOST_CELLS, JOB_BYTES};
+use node_images::CellShows;
 use trace_bench::Auditor;
 
 /// The most bytes of a cell: those of the verifier's.
 pub const MOST_CELL: usize = 4_122;
-
-/// What the bytes of a cell show.
-#[derive(Clone, Copy, Debug, PartialEq, Eq)]
-pub enum CellShows {
-    /// What was counted.
-    Counted,
-    /// That, and the commit in doubt.
-    Open,
-    /// Neither.
-    Other,
-}
 
 /// What an image of a storage shows.
 #[derive(Clone, Copy, Debug, PartialEq, Eq)]
@@ -39,7 +31,9 @@ pub enum Shows {
 }
 
 /// How many slots a cell of the node has.
-pub fn slot_count(node: &Node) -> usize {
+pub fn slot_count(node: &Node) -> usize
+    ensures { result ≡ slots_in node.now }
+{
     match node {
         Node::Device(_) => SLOTS as usize,
         Node::Centre | Node::Host | Node::Verifier => 2,
@@ -47,7 +41,9 @@ pub fn slot_count(node: &Node) -> usize {
 }
 
 /// How many bytes a payload of the node has.
-pub fn payload_bytes(node: &Node) -> usize {
+pub fn payload_bytes(node: &Node) -> usize
+    ensures { result ≡ size_in node.now }
+{
     match node {
         Node::Device(_) => RECORD_BYTES,
         Node::Centre => ROW_BYTES,
@@ -57,7 +53,9 @@ pub fn payload_bytes(node: &Node) -> usize {
 }
 
 /// How many cells the storage of the node has.
-pub fn cell_count(node: &Node) -> u32 {
+pub fn cell_count(node: &Node) -> u32
+    ensures { result ≡ cells_in node.now }
+{
     match node {
         Node::Device(_) => 1,
         Node::Centre => CENTRE_CELLS,
@@ -67,13 +65,23 @@ pub fn cell_count(node: &Node) -> u32 {
 }
 
 /// How many bytes each of them has.
-pub fn cell_bytes(node: &Node) -> usize {
-    slot_count(node) * (5 + payload_bytes(node))
+pub fn cell_bytes(node: &Node) -> usize
+    ensures { result ≡ width_in node.now }
+{
+    match node {
+        Node::Device(_) => 3_424,
+        Node::Centre => 394,
+        Node::Host => 240,
+        Node::Verifier => MOST_CELL,
+    }
 }
 
 /// What the bytes of the cell of the node at this place show.
 pub fn shows_cell(auditor: &Auditor, node: &Node, place: u32, cell: &[u8]) -> CellShows
     requires ready { IsReady (audit_of auditor.now) }
+    requires inside { place < cells_in node.now }
+    requires long { length cell.now ≡ width_in node.now }
+    ensures { NodeCellIs (audit_of auditor.now) node.now place cell.now result }
 {
     match node {
         Node::Device(device) => device_cell(auditor.device_node(*device), *device, cell),
