@@ -1,3 +1,4 @@
+pub mod Blank
 mod Booted
 mod Commits
 mod Worn
