@@ -8,14 +8,17 @@ use crate::runs::{say, say_finding};
 use crate::verdicts::FINDING;
 use audit_words::{Asked, shown_text};
 use bench_base::numbers::DevNo;
-use bench_base::stream::IoSource;
+use bench_base::sizes::{CENTRE_BYTES, DEVICE_BYTES, VERIFIER_BYTES};
+use bench_base::stream::{IoSource, ReadFail};
 use bench_base::words::Node;
+use host_jobs::HOST_BYTES;
 use std::alloc::{AllocError, Global};
 use std::fs::{self, File};
 use std::io::{self, BufReader};
 use trace_bench::Auditor;
 use trace_folder::{
-    Due, Found, MOST_CELL, Shows, cell_bytes, cell_count, due_in, found_in, image_shows,
+    Due, Found, MOST_CELL, Shows, centre_due, centre_shows, device_due, device_shows, found_in,
+    host_due, host_shows, verifier_due, verifier_shows,
 };
 
 /// How many storages a bench has.
@@ -77,7 +80,51 @@ fn path_in(alloc: Global, folder: &str, file: &str) -> Result<String, AllocError
 
 // How many bytes the storage of the node has.
 fn storage_bytes(node: &Node) -> u64 {
-    u64::from(cell_count(node)) * cell_bytes(node) as u64
+    u64::from(match node {
+        Node::Device(_) => DEVICE_BYTES,
+        Node::Centre => CENTRE_BYTES,
+        Node::Host => HOST_BYTES,
+        Node::Verifier => VERIFIER_BYTES,
+    })
+}
+
+// What the image of the node's storage shows. The first cell that shows something else is then in the buffer.
+fn image_shows(
+    auditor: &Auditor,
+    node: &Node,
+    image: &mut IoSource<BufReader<File>>,
+    buffer: &mut [u8; MOST_CELL],
+) -> Result<Shows, ReadFail>
+    requires ready { IsReady (audit_of auditor.now) }
+{
+    match node {
+        Node::Device(device) => device_shows(auditor.device_node(*device), *device, image, buffer),
+        Node::Centre => centre_shows(auditor.centre_node(), image, buffer),
+        Node::Host => host_shows(auditor.host_node(), image, buffer),
+        Node::Verifier => verifier_shows(auditor.verifier_node(), image, buffer),
+    }
+}
+
+// What the cell of the node at this place should hold.
+fn due_in(auditor: &Auditor, node: &Node, place: u32) -> Due
+    requires ready { IsReady (audit_of auditor.now) }
+{
+    match node {
+        Node::Device(device) => device_due(auditor.device_node(*device)),
+        Node::Centre => centre_due(auditor.centre_node(), place),
+        Node::Host => host_due(auditor.host_node(), place),
+        Node::Verifier => verifier_due(auditor.verifier_node(), place),
+    }
+}
+
+// What the cell of the node in the buffer holds.
+fn found_of(node: &Node, buffer: &[u8; MOST_CELL]) -> Found {
+    match node {
+        Node::Device(_) => found_in(&buffer[..3_424], 16, 209),
+        Node::Centre => found_in(&buffer[..394], 2, 192),
+        Node::Host => found_in(&buffer[..240], 2, 115),
+        Node::Verifier => found_in(&buffer[..4_122], 2, 2_056),
+    }
 }
 
 // What is wrong with the file as such, if something is.
@@ -123,7 +170,7 @@ fn look_at(
         Ok(Shows::Other(place)) => Ok(Told::Other(
             place,
             due_in(auditor, node, place),
-            found_in(node, &buffer[..cell_bytes(node)]),
+            found_of(node, buffer),
         )),
         Err(_) => Err(unusable(rt, path)),
     }

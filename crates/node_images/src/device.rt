@@ -61,6 +61,23 @@ fn is_sound_after(
     }
 }
 
+// Whether both are so.
+fn are_sound(
+    device: DevNo,
+    count: u32,
+    state: &Option<ReadyRecord>,
+    changed: &Option<DevRec>,
+) -> bool
+    requires fresh { IfSome changed.now (λ x. count < MOST_COMMITS) }
+    ensures yes { result ≡ true → AreSound device (record { count = count; state = state.now }) changed.now }
+    ensures no { result ≡ false → AreSound device (record { count = count; state = state.now }) changed.now → ⊥ }
+{
+    if !is_sound(device, count, state) {
+        return false;
+    }
+    is_sound_after(device, count, state, changed)
+}
+
 // Whether the image shows no commit.
 fn shows_none(image: &[u8]) -> bool
     requires long { length image.now ≡ 3424 }
@@ -131,15 +148,14 @@ pub fn device_image(
     requires fresh { IfSome changed.now (λ x. count < MOST_COMMITS) }
     ensures { DeviceIs device (record { count = count; state = state.now }) changed.now image.now result }
 {
-    if !is_sound(device, count, state) || !is_sound_after(device, count, state, changed) {
+    if !are_sound(device, count, state, changed) {
         return CellShows::Other;
     }
     if shows_state(device, image, count, state) {
         return CellShows::Counted;
     }
     if shows_changed(device, image, count, state, changed) {
-        CellShows::Open
-    } else {
-        CellShows::Other
+        return CellShows::Open;
     }
+    CellShows::Other
 }

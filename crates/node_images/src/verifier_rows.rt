@@ -25,12 +25,16 @@ fn device_in(place: usize, device: u32) -> Option<DevNo>
     ensures some { IfSome result (λ d. (d ≡ device) × (device ≡ place + 1) × (place < FIRST_BLOCK)) }
     ensures none { IfNone result ((device ≡ place + 1) × (place < FIRST_BLOCK) → ⊥) }
 {
-    let number = DevNo::new(device)?;
-    if device as usize == place + 1 {
-        Some(number)
-    } else {
-        None
+    if place >= FIRST_BLOCK as usize {
+        return None;
     }
+    let Some(number) = DevNo::new(device) else {
+        return None;
+    };
+    if device as usize != place + 1 {
+        return None;
+    }
+    Some(number)
 }
 
 /// Whether the bytes of the cell at this place show so many commits and the key of this device.

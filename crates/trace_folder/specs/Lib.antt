@@ -1,3 +1,2 @@
 -- Promised: public contracts name these.
-pub mod Storages
 pub mod Changes

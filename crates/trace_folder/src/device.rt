@@ -4,7 +4,9 @@ ghost use Rattle.trace_device.specs.Records.{IsSettled, seen_of};
 ghost use Rattle.node_images.specs.Devices.{DeviceIs};
 
 use crate::due::Due;
+use crate::shows::{MOST_CELL, Shows, fill, with_cell};
 use bench_base::numbers::DevNo;
+use bench_base::stream::{ReadFail, Source};
 use node_images::{CellShows, device_image};
 use psd_state::DevRec;
 use trace_device::DeviceRecord;
@@ -18,6 +20,23 @@ pub fn device_cell(traced: &Traced<DeviceRecord, DevRec>, device: DevNo, image: 
 {
     let kept = &traced.record;
     device_image(device, image, kept.count, &kept.state, &traced.open)
+}
+
+/// What the image of the device's storage shows, which is read into the buffer. ReadFail if the source fails or has too few bytes.
+pub fn device_shows<S: Source>(
+    traced: &Traced<DeviceRecord, DevRec>,
+    device: DevNo,
+    image: &mut S,
+    buffer: &mut [u8; MOST_CELL],
+) -> Result<Shows, ReadFail>
+    requires settled { IsSettled traced.now }
+{
+    fill(image, &mut buffer[..3_424])?;
+    Ok(with_cell(
+        Shows::Counted,
+        0,
+        device_cell(traced, device, &buffer[..3_424]),
+    ))
 }
 
 /// What the storage should hold.

@@ -1,4 +1,4 @@
-//! Whether the storages of a folder show what the auditor found.
+//! Whether the storage of a node shows what the reports describe.
 #![tactic(auto)]
 
 mod centre;
@@ -8,6 +8,10 @@ mod host;
 mod shows;
 mod verifier_cells;
 
-pub use due::{Due, Found, due_in, found_in};
+pub use centre::{centre_cell, centre_due, centre_shows};
+pub use device::{device_cell, device_due, device_shows};
+pub use due::{Due, Found, found_in};
+pub use host::{host_cell, host_due, host_shows};
 pub use node_images::CellShows;
-pub use shows::{MOST_CELL, Shows, cell_bytes, cell_count, image_shows, shows_cell};
+pub use shows::{MOST_CELL, Shows};
+pub use verifier_cells::{verifier_cell, verifier_due, verifier_shows};

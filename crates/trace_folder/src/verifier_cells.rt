@@ -7,9 +7,12 @@ ghost use Rattle.trace_verifier.specs.Cells.{IsSettled, cells_of};
 ghost use Rattle.trace_verifier.specs.Helds.{row_held, seen_cell};
 ghost use Rattle.trace_verifier.specs.Records.{IsPlaced, row_by};
 ghost use Rattle.node_images.specs.Cells.{ShowsCell, CellIs};
-ghost use Rattle.trace_folder.specs.Changes as changes;
+ghost use Rattle.trace_folder.specs.Changes.{row_at_place};
 
 use crate::due::{Due, due_by};
+use crate::shows::{MOST_CELL, Shows, fill, is_other, with_cell};
+use bench_base::sizes::VERIFIER_CELLS;
+use bench_base::stream::{ReadFail, Source};
 use node_images::{CellShows, shows_block, shows_no_block, shows_trust};
 use trace_nodes::Traced;
 use trace_verifier::{Held, ScanRecord, cell_of, held_with};
@@ -69,7 +72,7 @@ pub fn verifier_cell(traced: &Traced<ScanRecord, Change>, place: usize, cell: &[
     requires inside { place < 1032 }
     requires long { length cell.now ≡ 4122 }
     ensures { CellIs 2056 (IsPayloadOf place) (row_at (cells_of traced.now.record) place)
-        (changes.verifier_at place (cells_of traced.now.record) traced.now.open) cell.now result }
+        (row_at_place place (cells_of traced.now.record) traced.now.open) cell.now result }
 {
     let seen = &traced.record.cells()[place];
     if shows_seen(cell, place, seen) {
@@ -83,13 +86,39 @@ pub fn verifier_cell(traced: &Traced<ScanRecord, Change>, place: usize, cell: &[
     }
 }
 
-/// What the cell at this place should hold.
-pub fn verifier_due(traced: &Traced<ScanRecord, Change>, place: usize) -> Due
-    requires { place < 1032 }
+/// What the image of the verifier's storage shows, which is read cell by cell into the buffer, up to the first cell that shows neither. The bytes of that cell
+/// are then in the buffer. ReadFail if the source fails or has too few bytes.
+pub fn verifier_shows<S: Source>(
+    traced: &Traced<ScanRecord, Change>,
+    image: &mut S,
+    buffer: &mut [u8; MOST_CELL],
+) -> Result<Shows, ReadFail>
+    requires settled { IsSettled traced.now }
 {
+    let mut seen = Shows::Counted;
+    for place in 0..VERIFIER_CELLS {
+        fill(image, &mut buffer[..4122])?;
+        let cell = verifier_cell(traced, place as usize, &buffer[..4122]);
+        seen = with_cell(seen, place, cell);
+        if is_other(seen) {
+            return Ok(seen);
+        }
+    }
+    Ok(seen)
+}
+
+/// What the cell at this place should hold.
+pub fn verifier_due(traced: &Traced<ScanRecord, Change>, place: u32) -> Due {
     let cell = match &traced.open {
         Some(change) => Some(cell_of(change)),
         None => None,
     };
-    due_by(count_of(&traced.record.cells()[place]), cell, place)
+    let place = place as usize;
+    let cells = traced.record.cells();
+    let count = if place < cells.len() {
+        count_of(&cells[place])
+    } else {
+        0
+    };
+    due_by(count, cell, place)
 }
