@@ -31,6 +31,8 @@ pub struct Words {
     pub prints: Option<String>,
     /// The file of the marks that were seen on mail.
     pub seen: Option<String>,
+    /// The folder whose storages are compared with what the runs left.
+    pub storages: Option<String>,
     pub asked: Asked,
     /// Whether what is undecided at the end counts as decided.
     pub is_lenient: bool,
@@ -65,6 +67,7 @@ enum Operand {
     Rates,
     Prints,
     Seen,
+    Storages,
 }
 
 /// What was read so far.
@@ -97,6 +100,7 @@ fn operand_of(word: &str) -> Option<Operand> {
         "--rates" => Some(Operand::Rates),
         "--prints" => Some(Operand::Prints),
         "--seen" => Some(Operand::Seen),
+        "--folder" => Some(Operand::Storages),
         _ => None,
     }
 }
@@ -138,6 +142,7 @@ impl Reader {
             Operand::Rates => fill(&mut self.words.rates, word),
             Operand::Prints => fill(&mut self.words.prints, word),
             Operand::Seen => fill(&mut self.words.seen, word),
+            Operand::Storages => fill(&mut self.words.storages, word),
         }
     }
 
@@ -203,6 +208,7 @@ fn read_audit(alloc: Global, words: Vec<String>) -> Result<Words, WordsFault> {
             rates: None,
             prints: None,
             seen: None,
+            storages: None,
             asked: Asked::Nothing,
             is_lenient: false,
             names: Vec::new(alloc),

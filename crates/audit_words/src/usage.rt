@@ -16,6 +16,7 @@ options, in any order
   --rates FILE     the rates of every run, in place of each NAME.rates
   --prints FILE    whether FILE, such as prints.txt, has the prints of these runs
   --seen FILE      whether these runs debited each mark of FILE, a line of 128 hexadecimal digits each
+  --folder DIR     whether the storages of DIR show what these runs left
   --lenient        status 0 in place of 4
   --help           these lines
   --version        the version

@@ -15,6 +15,8 @@ pub enum Fault {
     Rates(String),
     #[error("cannot use {0}: it has no run")]
     Folder(String),
+    #[error("cannot use {0}: another program uses it")]
+    InUse(String),
     #[error("cannot use {0}: it changed while it was read")]
     Changed(String),
     #[error("{0} was not stopped, so no answer is due")]
@@ -35,6 +37,7 @@ pub fn code_of(fault: &Fault) -> u8 {
         | Fault::Pipe(_)
         | Fault::Rates(_)
         | Fault::Folder(_)
+        | Fault::InUse(_)
         | Fault::Changed(_)
         | Fault::Unstopped(_)
         | Fault::Write

@@ -9,6 +9,7 @@ mod digest;
 mod faults;
 mod files;
 mod folders;
+mod held;
 mod judging;
 mod page;
 mod plan;
@@ -16,6 +17,7 @@ mod prints;
 mod runs;
 mod scripts;
 mod seen;
+mod storages;
 mod tails;
 mod verdicts;
 
@@ -36,6 +38,7 @@ use runs::{Gathered, judge_all, say, say_finding};
 use seen::{SeenFile, read_seen, tell_seen};
 use std::process::ExitCode;
 use std::{env, io};
+use storages::tell_storages;
 use trace_bench::Auditor;
 use verdicts::FINDING;
 
@@ -202,7 +205,8 @@ fn judge_words(
     }
     let prints_code = tell_prints(rt, &mut plan, &mut gathered)?;
     let marks_code = tell_marks(rt, &plan, auditor, seen)?;
-    if prints_code != 0 || marks_code != 0 {
+    let storages_code = tell_storages(rt, plan.asked, auditor, &plan.storages)?;
+    if prints_code != 0 || marks_code != 0 || storages_code != 0 {
         return Ok(tell_found(rt, &plan, clerk, &gathered));
     }
     tell_below(rt, &plan, auditor, clerk, &gathered)?;

@@ -2,6 +2,7 @@
 use crate::faults::{Fault, or_memory};
 use crate::files::{open_file, rates_in, want_regular};
 use crate::folders::runs_in;
+use crate::held::{HeldFolder, hold};
 use crate::prints::PrintsFile;
 use crate::scripts::may_bring_bytes;
 use audit_words::{Asked, Words};
@@ -18,6 +19,8 @@ pub struct Plan {
     pub printed: Option<PrintsFile>,
     /// The file of the marks that were seen on mail.
     pub seen: Option<String>,
+    /// The folder whose storages are compared, which is held.
+    pub storages: Option<HeldFolder>,
     /// Whether a script may have a `give` or a `scan N hex`: what runs send and release is then kept.
     pub has_bytes: bool,
 }
@@ -78,6 +81,14 @@ fn open_prints(rt: &HostRuntime, file: Option<String>) -> Result<Option<PrintsFi
     Ok(Some(PrintsFile { file, opened }))
 }
 
+// The folder whose storages are compared, held.
+fn hold_storages(rt: &HostRuntime, folder: Option<String>) -> Result<Option<HeldFolder>, Fault> {
+    let Some(folder) = folder else {
+        return Ok(None);
+    };
+    Ok(Some(hold(rt, folder)?))
+}
+
 /// What these words come to. Each file that is that of every run is opened before the first run is judged.
 pub fn plan_of(rt: &HostRuntime, words: Words) -> Result<Plan, Fault> {
     let Words {
@@ -85,6 +96,7 @@ pub fn plan_of(rt: &HostRuntime, words: Words) -> Result<Plan, Fault> {
         rates,
         prints,
         seen,
+        storages,
         asked,
         is_lenient,
         names,
@@ -92,6 +104,7 @@ pub fn plan_of(rt: &HostRuntime, words: Words) -> Result<Plan, Fault> {
     let names = all_runs(rt, &folder, names)?;
     let rates = shared_rates(rt, &rates, names.len())?;
     let printed = open_prints(rt, prints)?;
+    let storages = hold_storages(rt, storages)?;
     let has_bytes = may_bring_bytes(rt, names.as_slice());
     Ok(Plan {
         names,
@@ -100,6 +113,7 @@ pub fn plan_of(rt: &HostRuntime, words: Words) -> Result<Plan, Fault> {
         rates,
         printed,
         seen,
+        storages,
         has_bytes,
     })
 }

@@ -6,6 +6,7 @@ pub mod comparing;
 pub mod forging;
 pub mod judging;
 pub mod known;
+pub mod nodes;
 pub mod printed;
 pub mod rates;
 pub mod stopping;

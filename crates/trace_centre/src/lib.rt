@@ -7,4 +7,4 @@ mod record;
 
 pub use acts::centre_act;
 pub use judge::{is_known, judge_centre};
-pub use record::CentreRecord;
+pub use record::{CentreRecord, cell_of};

@@ -24,7 +24,7 @@ pub struct CentreRecord {
 }
 
 /// The cell of a row: device d in cell d - 1, and customer w in cell w + 7.
-pub(crate) fn cell_of(row: &Row) -> usize
+pub fn cell_of(row: &Row) -> usize
     ensures value { result ≡ centre.cell_of row.now }
     ensures inside { result < 72 }
     ensures has { HasCell row.now }
@@ -76,6 +76,13 @@ impl CentreRecord {
             accounts: Accounts::empty(),
             total: 0,
         }
+    }
+
+    /// The cells: None of a blank one, otherwise its commits and its row.
+    pub fn cells(&self) -> &[Option<(u32, Row)>; CELLS]
+        ensures { result.now ≡ cells_of self.now }
+    {
+        &self.cells
     }
 
     /// The rows.

@@ -78,6 +78,13 @@ fn no_cells(alloc: Global) -> Result<Vec<Option<(u32, JobRow)>>, AllocError>
 impl HostRecord {
     ghost use Rattle.trace_host.specs.Cells.{cells_of};
 
+    /// The cells: None of a blank one, otherwise its commits and its job.
+    pub fn cells(&self) -> &[Option<(u32, JobRow)>]
+        ensures { result.now ≡ cells_of self.now }
+    {
+        self.cells.as_slice()
+    }
+
     /// A host without a job: as it is seen before the first commit. AllocError is lack of memory.
     pub fn blank(alloc: Global) -> Result<HostRecord, AllocError>
         ensures { IfOk result (λ r. cells_of r ≡ seen_after []) }

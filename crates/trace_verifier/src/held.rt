@@ -54,8 +54,8 @@ pub(crate) fn key_of(cell: &Option<(u32, Held)>) -> Option<&ReadyKey>
     }
 }
 
-// The row that a change leaves.
-pub(crate) fn held_with(cell: &Option<(u32, Held)>, change: &Change) -> Held
+/// The row that a change leaves in its cell, by what is kept of the row before.
+pub fn held_with(cell: &Option<(u32, Held)>, change: &Change) -> Held
     requires { IsPlaced change.now }
     ensures { row_held result ≡ row_by (row_of (seen_cell cell.now)) change.now }
 {

@@ -31,8 +31,8 @@ pub struct ScanRecord {
     ghost kept: { AreIndexed (seen_by cells.items) index total } by { indexed_prop (seen_by cells.items) index total },
 }
 
-// The cell of a change: device d in cell d - 1, and a block in its own.
-fn cell_of(change: &Change) -> usize
+/// The cell of a change: device d in cell d - 1, and a block in its own.
+pub fn cell_of(change: &Change) -> usize
     ensures { result ≡ seen.cell_of change.now }
 {
     match change {
@@ -107,6 +107,13 @@ fn no_cells(alloc: Global) -> Result<Vec<Option<(u32, Held)>>, AllocError>
 
 impl ScanRecord {
     ghost use Rattle.trace_verifier.specs.Cells.{cells_of};
+
+    /// The cells: None of a blank one, otherwise its commits and what is kept of its row.
+    pub fn cells(&self) -> &[Option<(u32, Held)>]
+        ensures { seen_by result.now ≡ cells_of self.now }
+    {
+        self.cells.as_slice()
+    }
 
     /// A verifier without a row: as it is seen before the first commit. AllocError is lack of memory.
     pub fn blank(alloc: Global) -> Result<ScanRecord, AllocError>

@@ -1,0 +1,3 @@
+-- Promised: public contracts name these.
+pub mod Cells
+pub mod Devices
