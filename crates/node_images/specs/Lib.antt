@@ -1,3 +1,4 @@
 -- Promised: public contracts name these.
 pub mod Cells
 pub mod Devices
+pub mod Joined

@@ -6,10 +6,12 @@ mod cell;
 mod centre;
 mod device;
 mod host;
+mod laws;
 mod verifier_rows;
 
 pub use cell::CellShows;
 pub use centre::centre_cell;
 pub use device::device_image;
 pub use host::host_cell;
+pub use laws::cells_show_rows;
 pub use verifier_rows::{shows_block, shows_no_block, shows_trust};
