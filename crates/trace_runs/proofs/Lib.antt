@@ -6,6 +6,7 @@ mod Giving
 mod MadePrinted
 mod Matching
 mod One
+mod OneVerdict
 mod Opening
 mod Paired
 mod Passing

@@ -83,7 +83,7 @@ IsCutShort (Stopped n) = ⊥
 IsCutShort (Wrong n due) = ⊥
 IsCutShort (Forged n) = ⊥
 IsCutShort (Unkept n) = Unit {0}
-IsCutShort (More n) = ⊥
+IsCutShort (More n end) = ⊥
 IsCutShort Memory = Unit {0}
 IsCutShort (Unread input n) = Unit {0}
 
@@ -111,6 +111,12 @@ pub record IsExact (v : Verdict) (script report rates : List ℕ) (old new : Aud
   pub stops : AtSeen old (λ τ H. (trace : List TraceStep) → FitsStopped τ H script report rates trace → IsStoppedAt v (length trace + 1))
   pub stopped : (n : ℕ) → v ≡ Stopped n
       → AtSeen old (λ τ H. (trace : List TraceStep) × FitsStopped τ H script report rates trace)
+
+-- ONE VERDICT. Two verdicts over the same script, report and rates, by auditors that had the same before, are equal if neither was cut short. It takes
+-- one history that they saw as the run began.
+abbrev pub AreEqual : Verdict → Verdict → List ℕ → List ℕ → List ℕ → Audit → Audit → Audit → Type 0
+AreEqual v w script report rates old new other =
+    Says v script report rates old new → Says w script report rates old other → (IsCutShort v → ⊥) → (IsCutShort w → ⊥) → AtSeen old (λ τ H. v ≡ w)
 
 -- If an audit of a run says that it is lawful, and these are the prints of what was given, some steps fit that print them.
 abbrev pub PrintsFit : Verdict → List ℕ → List ℕ → List ℕ → Audit → Audit → List Imprint → Type 0
