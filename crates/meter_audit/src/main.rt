@@ -101,7 +101,6 @@ fn tell_prints(rt: &HostRuntime, plan: &mut Plan, gathered: &mut Gathered) -> Re
     if said.is_finding {
         return Ok(say_finding(rt, plan.asked, said.text.as_str()));
     }
-    gathered.is_undecided = gathered.is_undecided || said.is_open;
     say(rt, plan.asked, said.text.as_str())?;
     Ok(0)
 }

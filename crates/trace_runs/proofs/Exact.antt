@@ -30,6 +30,7 @@ use Rattle.trace_runs.specs.Prints.{ArePrinted}
 use Rattle.trace_runs.specs.Fitting.{FitsPrinted, AreTold, rates_after, FitsFirst, FitsToEnd, FitsStopped, EndsTold, BeginsTold, IsCutShort, IsLawful, IsStoppedAt, IsExact}
 use Rattle.trace_runs.specs.declared.{verdict.Ending.Ending, verdict.Ending.TheVariants.Done as Ended, verdict.Ending.TheVariants.Script, verdict.Ending.TheVariants.TooLong, verdict.Verdict.Verdict, verdict.Verdict.TheVariants.Lawful, verdict.Verdict.TheVariants.Stopped, verdict.Verdict.TheVariants.Wrong, verdict.Verdict.TheVariants.Forged, verdict.Verdict.TheVariants.Unkept, verdict.Verdict.TheVariants.More, verdict.Verdict.TheVariants.Memory, verdict.Verdict.TheVariants.Unread}
 use Rattle.trace_runs.proofs.Fitted.{Made, made, lawful_ends, stopped_begins}
+use Rattle.trace_runs.proofs.GivenBack.{given_back}
 use Rattle.trace_runs.proofs.MadePrinted.{made_printed}
 use Rattle.trace_runs.proofs.Comparing.{prefix_one, Compared, longer, shorter, compare, one_split}
 
@@ -255,6 +256,14 @@ module _ (one : (x y : Reply) → IsWholeReply x → IsWholeReply y → text_of 
         absurd (not_end fw.end (length trace + 1) (line_in p) (map line_in more ++ says.rest) (omega (arith, size, says.prefix.few)) (pair_passes p is)
         (subst (λ (r : List (List ℕ)). EndsAt script_grammar (status_of fw.end) (length trace + 1) r) lines fw.ends))
 
+    -- no pair is left over
+    as_long : (τ : Tariff) (H : Ledger) (trace : List TraceStep) (fw : FitsToEnd τ (Begin ∷ H) script report rates trace)
+        → Compared τ (Falls τ) (Begin ∷ H) rates says.pairs trace says.rest fw.fits.rest says.told fw.fits.told → length says.pairs ≤ length trace
+    as_long τ H trace fw (longer more K l size so reads goes lines texts are behind left) = omega (arith, size)
+    as_long τ H trace fw (shorter p more size is lines texts) =
+        absurd (not_end fw.end (length trace + 1) (line_in p) (map line_in more ++ says.rest) (omega (arith, size, says.prefix.few)) (pair_passes p is)
+        (subst (λ (r : List (List ℕ)). EndsAt script_grammar (status_of fw.end) (length trace + 1) r) lines fw.ends))
+
     -- if the run may have been stopped after them, it was
     stops_whole : (τ : Tariff) (H : Ledger) (trace : List TraceStep) (fw : FitsStopped τ (Begin ∷ H) script report rates trace)
         → Compared τ (Falls τ) (Begin ∷ H) rates says.pairs trace says.rest fw.fits.rest says.told fw.fits.told → IsStoppedAt v (length trace + 1)
@@ -323,6 +332,17 @@ module _ (one : (x y : Reply) → IsWholeReply x → IsWholeReply y → text_of 
     fits_printed τ H end prints is so printed =
         let m = made_printed τ (Falls τ) (Begin ∷ H) rates says.pairs 1 prints says.prefix.each so printed in
         (m.made.trace, record { fits = fits_made τ H end is m.made; run = m.run; prints_are = m.prints })
+
+    -- prints of steps that fit are those of the pairs
+    pub printed_back : (τ : Tariff) (H : Ledger) (prints : List ℕ) → (IsCutShort v → ⊥) → TellsSo τ (Falls τ) (Begin ∷ H) rates says.pairs → (trace : List TraceStep)
+        → FitsPrinted τ (Begin ∷ H) script report rates prints trace → ArePrinted (imprints_from 1 says.pairs) prints
+    printed_back τ H prints other so trace f =
+        let fits = f.fits.fits in
+        let compared = beside τ H trace fits so in
+        let few = no_longer τ H trace fits.rest fits.told fits.few other compared in
+        let many = as_long τ H trace f.fits compared in
+        given_back one line τ (Falls τ) (Begin ∷ H) rates says.pairs trace 1 says.rest fits.rest says.told fits.told prints says.prefix.each fits.each fits.go_on (omega (arith, few, many))
+        (sym says.prefix.script_is ∙ fits.script_is) (sym says.prefix.report_is ∙ fits.report_is) so f.run f.prints_are
 
     pub exact : IsExact v script report rates old new says
     exact = record {

@@ -2,6 +2,7 @@ mod Comparing
 mod Counting
 mod Exact
 mod Fitted
+mod GivenBack
 mod Giving
 mod MadePrinted
 mod Matching
@@ -10,6 +11,8 @@ mod OneVerdict
 mod Opening
 mod Paired
 mod Passing
+mod PrintParts
+mod Reaching
 mod WasRead
 mod ReadTurns
 mod Running

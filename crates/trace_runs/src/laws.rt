@@ -59,7 +59,8 @@ pub fn one_verdict()
     one_line();
 }
 
-/// Prints fit the steps of a run that is lawful, where they are those of what the audit says that the printer was given in it.
+/// Prints are those of what the audit says that the printer was given in a lawful run if and only if they are the prints of some steps that fit. So if
+/// they aren't, no lawful run with this script and this report prints so.
 pub fn prints_fit()
     ensures { (v : Verdict) (script report rates : List ℕ) (old new : Audit) (given : List Imprint) → PrintsFit v script report rates old new given }
 {
