@@ -43,8 +43,6 @@ pub struct RunFinding {
 #[derive(Clone, Copy)]
 pub enum PrintsState {
     Fit,
-    /// They fit as far as they were judged.
-    Open,
     /// Another line is there in place of that of a print.
     Differ,
     /// The file goes on after the last print.
@@ -56,8 +54,6 @@ pub enum PrintsState {
 pub struct PrintsSaid {
     pub state: PrintsState,
     pub file: String,
-    /// Whether they were judged in part since a run was stopped; otherwise since the printer failed.
-    pub is_stopped: bool,
     /// The run and the line of the print, and its line in the file.
     pub run: usize,
     pub line: u32,

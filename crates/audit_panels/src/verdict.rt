@@ -265,26 +265,20 @@ fn put_unjudged_prints(sheet: &mut Sheet) {
 }
 
 // Says what is known of prints that are not found to be others.
-fn put_prints(sheet: &mut Sheet, told: &Told<'_>, said: &PrintsSaid) {
+fn put_prints(sheet: &mut Sheet, said: &PrintsSaid) {
     if is_other(said) {
         return;
     }
     sheet.put_own("<p class=\"q\">The prints in ");
     put_bold(sheet, said.file.as_str());
-    if let PrintsState::Fit = said.state {
-        sheet.put_own(" fit: ");
-        many(sheet, said.marks, "line", "lines");
+    sheet.put_own(" fit: ");
+    many(sheet, said.lines, "line", "lines");
+    if said.lines == said.marks {
         return sheet.put_own(", each the mark of one print.</p>");
     }
-    sheet.put_own(" fit before ");
-    put_run(sheet, told, said.run);
-    sheet.put_own(" line ");
-    put_count(sheet, said.line as u64);
-    sheet.put_own(if said.is_stopped {
-        ", where the run was stopped.</p>"
-    } else {
-        ", where the printer failed.</p>"
-    });
+    sheet.put_own(" of ");
+    many(sheet, said.marks, "print", "prints");
+    sheet.put_own(", since the printer failed or a run was stopped.</p>");
 }
 
 // Says where else to look for what was found of marks on mail.
@@ -300,7 +294,7 @@ fn put_notes(sheet: &mut Sheet, told: &Told<'_>, found: &Found<'_>) {
     put_stops(sheet, told);
     put_bad_ends(sheet, told);
     match found.prints {
-        Some(said) => put_prints(sheet, told, said),
+        Some(said) => put_prints(sheet, said),
         None => put_unjudged_prints(sheet),
     }
     if let Some(file) = found.seen {

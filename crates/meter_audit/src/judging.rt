@@ -9,7 +9,7 @@ use std::alloc::{AllocError, Global};
 use std::cell::RefCell;
 use std::io::Read;
 use trace_bench::Auditor;
-use trace_runs::{Ending, Imprint, Input, Judgment, LINES, Verdict, audit_run, read_line};
+use trace_runs::{Ending, Imprint, Input, Judgment, Verdict, audit_run, read_line};
 
 /// What came of a run. Numbers are those of lines of its script.
 #[derive(Clone, Copy)]
@@ -20,7 +20,7 @@ pub enum Outcome {
     Forged(u32),
     /// An event contains bytes, and what was sent and released is not kept.
     Unkept,
-    More(u32),
+    More(u32, Ending),
     Unread(Input),
     Memory,
 }
@@ -61,7 +61,7 @@ fn told_by(judgment: &Judgment) -> Told {
         }
         Verdict::Forged(line) => Outcome::Forged(*line),
         Verdict::Unkept(_) => Outcome::Unkept,
-        Verdict::More(line) => Outcome::More(*line),
+        Verdict::More(line, ending) => Outcome::More(*line, *ending),
         Verdict::Memory => Outcome::Memory,
         Verdict::Unread(input, _) => Outcome::Unread(*input),
     };
@@ -72,23 +72,10 @@ fn told_by(judgment: &Judgment) -> Told {
     }
 }
 
-// How a script ended at the line of this number, which was this.
-fn ending_at(line: u32, script: &[u8]) -> Ending {
-    if line > LINES {
-        return Ending::TooLong;
-    }
-    if script == b"end".as_slice() {
-        Ending::Done
-    } else {
-        Ending::Script(line)
-    }
-}
-
 // How the script ended, if it did.
-fn ending_of(outcome: Outcome, script: &[u8]) -> Ending {
+fn ending_of(outcome: Outcome) -> Ending {
     match outcome {
-        Outcome::Lawful(ending) => ending,
-        Outcome::More(line) => ending_at(line, script),
+        Outcome::Lawful(ending) | Outcome::More(_, ending) => ending,
         Outcome::Stopped(_)
         | Outcome::Wrong(_)
         | Outcome::Forged(_)
@@ -145,7 +132,7 @@ pub fn judge_over<S: Read + Drop, R: Read + Drop>(
     let line = last_taken(alloc, &mut script, &script_tail)?;
     Ok(Judged {
         outcome: told.outcome,
-        ending: ending_of(told.outcome, line.as_slice()),
+        ending: ending_of(told.outcome),
         answers: told.answers,
         is_empty: gave_nothing(&report_tail),
         script: shown(alloc, line.as_slice())?,

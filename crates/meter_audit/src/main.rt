@@ -106,14 +106,12 @@ fn tell_prints(rt: &HostRuntime, plan: &mut Plan, gathered: &mut Gathered) -> Re
     let Said {
         text,
         is_finding,
-        is_open,
         page,
     } = said;
     gathered.prints = Some(page);
     if is_finding {
         return Ok(say_finding(rt, plan.asked, text.as_str()));
     }
-    gathered.is_undecided = gathered.is_undecided || is_open;
     say(rt, plan.asked, text.as_str())?;
     Ok(0)
 }

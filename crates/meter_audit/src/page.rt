@@ -59,7 +59,7 @@ fn kind_of(judged: &Judged) -> Option<(FindingKind, u32)> {
     match judged.outcome {
         Outcome::Wrong(line) => Some((FindingKind::Wrong, line)),
         Outcome::Forged(line) => Some((FindingKind::Forged, line)),
-        Outcome::More(line) => Some((FindingKind::More, line)),
+        Outcome::More(line, _) => Some((FindingKind::More, line)),
         Outcome::Lawful(_)
         | Outcome::Stopped(_)
         | Outcome::Unkept

@@ -7,7 +7,7 @@ use memchr::memchr;
 use std::alloc::{AllocError, Global};
 use std::fs::File;
 use text_streams::put_digits;
-use trace_runs::{Imprint, Match, Printed, match_prints};
+use trace_runs::{Imprint, Match, match_prints};
 
 /// The digits of a mark.
 const DIGITS: usize = 128;
@@ -30,8 +30,6 @@ pub struct PrintsFile {
 pub struct Said {
     pub text: String,
     pub is_finding: bool,
-    /// Whether the prints were judged in part.
-    pub is_open: bool,
     /// The same for a page.
     pub page: PrintsSaid,
 }
@@ -50,10 +48,22 @@ fn most_bytes(count: usize) -> u64 {
         .saturating_add(SHOWN as u64)
 }
 
-// The line that begins after so many lines of marks, as it is shown.
-fn line_at(alloc: Global, prints: &[u8], place: usize) -> Result<String, AllocError> {
-    let start = place.saturating_mul(LINE).min(prints.len());
-    let rest = &prints[start..];
+// The number of the line in which so many bytes end, counted from 1, and the place at which it begins.
+fn line_in(prints: &[u8], at: usize) -> (usize, usize) {
+    let mut number: usize = 1;
+    let mut start = 0;
+    for place in 0..at.min(prints.len()) {
+        if prints[place] == b'\n' {
+            number = number.saturating_add(1);
+            start = place + 1;
+        }
+    }
+    (number, start)
+}
+
+// The line that begins at this place, as it is shown.
+fn line_at(alloc: Global, prints: &[u8], start: usize) -> Result<String, AllocError> {
+    let rest = &prints[start.min(prints.len())..];
     let end = memchr(b'\n', rest).unwrap_or(rest.len());
     shown(alloc, &rest[..end.min(SHOWN)])
 }
@@ -100,34 +110,25 @@ fn page_of(
     prints: &[u8],
     found: Match,
 ) -> PrintsSaid {
-    let place = match found {
-        Match::Fit => imprints.len(),
-        Match::Differ(place) | Match::Open(place) => place,
+    let (place, bytes) = match found {
+        Match::Fit => (imprints.len(), prints.len()),
+        Match::Differ(place, bytes) => (place, bytes),
     };
     let imprint = imprints.get(place);
     let state = match (found, imprint) {
         (Match::Fit, _) => PrintsState::Fit,
-        (Match::Open(_), _) => PrintsState::Open,
-        (Match::Differ(_), Some(_)) => PrintsState::Differ,
-        (Match::Differ(_), None) => PrintsState::GoOn,
+        (Match::Differ(_, _), Some(_)) => PrintsState::Differ,
+        (Match::Differ(_, _), None) => PrintsState::GoOn,
     };
+    let (number, _) = line_in(prints, bytes);
     PrintsSaid {
         state,
         file,
-        is_stopped: is_stopped(imprint),
         run: run_at(ends, place),
         line: line_of(imprint),
-        number: (place as u64).saturating_add(1),
+        number: number as u64,
         marks: imprints.len() as u64,
         lines: lines_in(prints),
-    }
-}
-
-// Whether the run was stopped before the answer to the print.
-fn is_stopped(imprint: Option<&Imprint>) -> bool {
-    match imprint {
-        Some(imprint) => matches!(imprint.given.taken, Printed::Stopped),
-        None => false,
     }
 }
 
@@ -156,22 +157,6 @@ fn differ_text(
     )
 }
 
-// What is said where the prints are judged up to this imprint alone.
-fn open_text(
-    alloc: Global,
-    file: &str,
-    at: &Place,
-    imprint: &Imprint,
-) -> Result<String, AllocError> {
-    let run = at.run.as_str();
-    let line = at.line;
-    let cause = match imprint.given.taken {
-        Printed::Stopped => "the run was stopped",
-        Printed::Whole | Printed::Failed => "the printer failed",
-    };
-    format!(in alloc; "prints {file} fit before {run} line {line}, where {cause}")
-}
-
 // What is said of prints by what was found. Names of runs and files are given as they are.
 fn text_of(
     alloc: Global,
@@ -184,12 +169,11 @@ fn text_of(
 ) -> Result<String, AllocError> {
     let shown_file = shown_text(alloc, file)?;
     let file = shown_file.as_str();
-    let place = match found {
-        Match::Fit => return format!(in alloc; "prints {file} fit"),
-        Match::Differ(place) | Match::Open(place) => place,
+    let Match::Differ(place, bytes) = found else {
+        return format!(in alloc; "prints {file} fit");
     };
-    let number = place.saturating_add(1);
-    let found_line = line_at(alloc, prints, place)?;
+    let (number, start) = line_in(prints, bytes);
+    let found_line = line_at(alloc, prints, start)?;
     let line = found_line.as_str();
     let Some(imprint) = imprints.get(place) else {
         return format!(in alloc;
@@ -200,10 +184,7 @@ fn text_of(
         run: shown_text(alloc, run_of(names, ends, place))?,
         line: imprint.line,
     };
-    match found {
-        Match::Open(_) => open_text(alloc, file, &at, imprint),
-        Match::Differ(_) | Match::Fit => differ_text(alloc, file, &at, imprint, number, line),
-    }
+    differ_text(alloc, file, &at, imprint, number, line)
 }
 
 /// Judges the prints of these runs, which have so many imprints up to each.
@@ -217,7 +198,7 @@ pub fn judge_prints(
     let PrintsFile { file, opened } = printed;
     let most = most_bytes(imprints.len());
     let prints = first_bytes(rt, file.as_str(), opened, most)?;
-    let found = match_prints(imprints, prints.as_slice());
+    let found = or_memory(match_prints(rt.alloc(), imprints, prints.as_slice()))?;
     let text = or_memory(text_of(
         rt.alloc(),
         file.as_str(),
@@ -227,15 +208,13 @@ pub fn judge_prints(
         prints.as_slice(),
         found,
     ))?;
-    let (is_finding, is_open) = match found {
-        Match::Fit => (false, false),
-        Match::Differ(_) => (true, false),
-        Match::Open(_) => (false, true),
+    let is_finding = match found {
+        Match::Fit => false,
+        Match::Differ(_, _) => true,
     };
     Ok(Said {
         text,
         is_finding,
-        is_open,
         page: page_of(file, ends, imprints, prints.as_slice(), found),
     })
 }

@@ -78,7 +78,7 @@ fn tell(rt: &HostRuntime, asked: Asked, name: &str, judged: &Judged) -> Result<u
         | Outcome::Stopped(_)
         | Outcome::Wrong(_)
         | Outcome::Forged(_)
-        | Outcome::More(_) => {}
+        | Outcome::More(_, _) => {}
     }
     let name = or_memory(shown_text(rt.alloc(), name))?;
     let text = or_memory(verdict_text(rt.alloc(), name.as_str(), judged))?;

@@ -9,7 +9,7 @@ pub const FINDING: u8 = 1;
 /// Whether the verdict is a finding.
 pub fn is_finding(judged: &Judged) -> bool {
     match judged.outcome {
-        Outcome::Wrong(_) | Outcome::Forged(_) | Outcome::More(_) => true,
+        Outcome::Wrong(_) | Outcome::Forged(_) | Outcome::More(_, _) => true,
         Outcome::Lawful(_)
         | Outcome::Stopped(_)
         | Outcome::Unkept
@@ -34,7 +34,7 @@ pub fn stopped_at(judged: &Judged) -> Option<u32> {
         | Outcome::Wrong(_)
         | Outcome::Forged(_)
         | Outcome::Unkept
-        | Outcome::More(_)
+        | Outcome::More(_, _)
         | Outcome::Unread(_)
         | Outcome::Memory => None,
     }
@@ -57,9 +57,15 @@ fn lawful_text(alloc: Global, name: &str, judged: &Judged) -> Result<String, All
 }
 
 // The text on a report that goes on.
-fn more_text(alloc: Global, name: &str, line: u32, judged: &Judged) -> Result<String, AllocError> {
+fn more_text(
+    alloc: Global,
+    name: &str,
+    line: u32,
+    ending: Ending,
+    judged: &Judged,
+) -> Result<String, AllocError> {
     let found = judged.found.as_str();
-    let end = match judged.ending {
+    let end = match ending {
         Ending::Done => "ends",
         Ending::Script(_) => "ends badly",
         Ending::TooLong => "is too long",
@@ -85,7 +91,7 @@ pub fn verdict_text(alloc: Global, name: &str, judged: &Judged) -> Result<String
         Outcome::Forged(line) => {
             format!(in alloc; "forged {name} line {line}\nscript {script}\nfound {found}")
         }
-        Outcome::More(line) => more_text(alloc, name, line, judged),
+        Outcome::More(line, ending) => more_text(alloc, name, line, ending, judged),
         Outcome::Unkept | Outcome::Unread(_) | Outcome::Memory => {
             format!(in alloc; "{name} was not judged")
         }

@@ -30,6 +30,7 @@ use Rattle.trace_runs.specs.Prints.{ArePrinted}
 use Rattle.trace_runs.specs.Fitting.{FitsPrinted, AreTold, rates_after, FitsFirst, FitsToEnd, FitsStopped, EndsTold, BeginsTold, IsCutShort, IsLawful, IsStoppedAt, IsExact}
 use Rattle.trace_runs.specs.declared.{verdict.Ending.Ending, verdict.Ending.TheVariants.Done as Ended, verdict.Ending.TheVariants.Script, verdict.Ending.TheVariants.TooLong, verdict.Verdict.Verdict, verdict.Verdict.TheVariants.Lawful, verdict.Verdict.TheVariants.Stopped, verdict.Verdict.TheVariants.Wrong, verdict.Verdict.TheVariants.Forged, verdict.Verdict.TheVariants.Unkept, verdict.Verdict.TheVariants.More, verdict.Verdict.TheVariants.Memory, verdict.Verdict.TheVariants.Unread}
 use Rattle.trace_runs.proofs.Fitted.{Made, made, lawful_ends, stopped_begins}
+use Rattle.trace_runs.proofs.GivenBack.{given_back}
 use Rattle.trace_runs.proofs.MadePrinted.{made_printed}
 use Rattle.trace_runs.proofs.Comparing.{prefix_one, Compared, longer, shorter, compare, one_split}
 
@@ -52,7 +53,7 @@ trace_step_passes (traces.Skipped line) reads goes = (reads.short, inl reads.is)
 trace_step_passes (Did line d) reads goes = (reads.short, inr (d.event, reads.is.0, goes))
 
 -- the line of an event ends a run where it is that of `end` alone
-event_ends : (end : Ending) (number : ℕ) (rest : List (List ℕ)) (e : Event) → IsEvent number rest e → EndsAt script_grammar (status_of end) number rest → (end ≡ Ended) × (e ≡ ev.End)
+pub event_ends : (end : Ending) (number : ℕ) (rest : List (List ℕ)) (e : Event) → IsEvent number rest e → EndsAt script_grammar (status_of end) number rest → (end ≡ Ended) × (e ≡ ev.End)
 event_ends end number rest e is at = by end (subst (λ (l : List (List ℕ)). EndsAt script_grammar (status_of end) number l) is.rest_is at)
   where
     by : (x : Ending) → EndsAt script_grammar (status_of x) number (is.line ∷ is.more) → (x ≡ Ended) × (e ≡ ev.End)
@@ -70,7 +71,7 @@ skips_none number rest e next line lines is skipped =
     no_event_skipped e next.line next.is.spells (subst (λ (z : List ℕ). IsSkipped z) (sym same) skipped)
 
 -- the next event is one
-one_next : (number number' : ℕ) (rest : List (List ℕ)) (e f : Event) → IsEvent number rest e → IsEvent number' rest f → e ≡ f
+pub one_next : (number number' : ℕ) (rest : List (List ℕ)) (e f : Event) → IsEvent number rest e → IsEvent number' rest f → e ≡ f
 one_next number number' rest e f next other =
     let same : next.line ≡ other.line = cc (next.rest_is, other.rest_is) in
     one_event_of e f other.line next.is.whole other.is.whole (subst (λ (z : List ℕ). Spells e z) same next.is.spells) other.is.spells
@@ -104,7 +105,7 @@ module _ (one : (x y : Reply) → IsWholeReply x → IsWholeReply y → text_of 
       untold.none d.reply (may_get τ K l answer e d event may) split.0
 
   -- no possible reply has the line, if the report has a line of no reply
-  wrong_not : (τ : Tariff) (K : Ledger) (l : List ℕ) (e : Event) (told_is : List ℕ) (new : Audit) (due : Reply) (d : StepRecord) (x : List ℕ) (has : HasSome told_is)
+  pub wrong_not : (τ : Tariff) (K : Ledger) (l : List ℕ) (e : Event) (told_is : List ℕ) (new : Audit) (due : Reply) (d : StepRecord) (x : List ℕ) (has : HasSome told_is)
       → IsWrong τ K l new e due told_is has → d.event ≡ e → MayTell τ K l d → told_is ≡ line_of d.reply ++ x → ⊥
   wrong_not τ K l e told_is new due d x (has_line answer behind has) wrong event may is = untold_not τ K l e answer behind told_is new due d x has wrong event may is
   wrong_not τ K l e told_is new due d x (has_prefix prefix behind begins one) wrong event may is =
@@ -116,8 +117,8 @@ module _ (one : (x y : Reply) → IsWholeReply x → IsWholeReply y → text_of 
       → AreTold τ K l (done_in (d ∷ more)) → IsCutShort v
   goes_past (Lawful end) number rest told_is falls τ K l new so inside d more lines x reads goes rest_is text are =
       absurd (not_end end number (traces.line_in d) lines inside (trace_step_passes d reads goes) (subst (λ (r : List (List ℕ)). EndsAt script_grammar (status_of end) number r) rest_is falls.script))
-  goes_past (More n) number rest told_is falls τ K l new so inside d more lines x reads goes rest_is text are =
-      absurd (not_end falls.1 number (traces.line_in d) lines inside (trace_step_passes d reads goes) (subst (λ (r : List (List ℕ)). EndsAt script_grammar (status_of falls.1) number r) rest_is falls.3.script))
+  goes_past (More n end) number rest told_is falls τ K l new so inside d more lines x reads goes rest_is text are =
+      absurd (not_end end number (traces.line_in d) lines inside (trace_step_passes d reads goes) (subst (λ (r : List (List ℕ)). EndsAt script_grammar (status_of end) number r) rest_is falls.2.script))
   goes_past (Stopped n) number rest told_is falls τ K l new so inside (traces.Skipped y) more lines x reads goes rest_is text are =
       absurd (skips_none number rest falls.1 falls.3 y lines rest_is reads.is)
   goes_past (Stopped n) number rest told_is falls τ K l new so inside (Did y d) more lines x reads goes rest_is text are =
@@ -139,7 +140,7 @@ module _ (one : (x y : Reply) → IsWholeReply x → IsWholeReply y → text_of 
   goes_past (Unread input n) number rest told_is falls τ K l new so inside d more lines x reads goes rest_is text are = tt
 
   -- where something fits to the end that is the place where the verdict falls, it is lawful
-  ends_there : (v : Verdict) (number : ℕ) (rest : List (List ℕ)) (told_is : List ℕ) (falls : FallsAt number rest told_is v) (τ : Tariff) (K : Ledger) (l : List ℕ) (new : Audit) → IsSo τ K l new number rest told_is v falls
+  pub ends_there : (v : Verdict) (number : ℕ) (rest : List (List ℕ)) (told_is : List ℕ) (falls : FallsAt number rest told_is v) (τ : Tariff) (K : Ledger) (l : List ℕ) (new : Audit) → IsSo τ K l new number rest told_is v falls
       → (end : Ending) → EndsAt script_grammar (status_of end) number rest → EndsTold τ K l end told_is → IsLawful v
   ends_there (Lawful e) number rest told_is falls τ K l new so end at ends = inl (e, refl)
   ends_there (Unkept n) number rest told_is falls τ K l new so end at ends = inr tt
@@ -159,7 +160,7 @@ module _ (one : (x y : Reply) → IsWholeReply x → IsWholeReply y → text_of 
       absurd (so.0 (subst (λ (f : Event). Unforged f K) (ends.1 ∙ sym w.1) ends.2.unforged))
   ends_there (Forged n) number rest told_is falls τ K l new so (Script k) at ends = let w = event_ends (Script k) number rest falls.1 falls.2 at in absurd (cc (w.0))
   ends_there (Forged n) number rest told_is falls τ K l new so TooLong at ends = let w = event_ends TooLong number rest falls.1 falls.2 at in absurd (cc (w.0))
-  ends_there (More n) number rest told_is falls τ K l new so end at ends = absurd (goes_on falls.1 falls.2 falls.3 falls.4 end at ends)
+  ends_there (More n e) number rest told_is falls τ K l new so end at ends = absurd (goes_on e falls.1 falls.2 falls.3 end at ends)
     where
       nothing : (a b : List ℕ) → a ≡ b → a ≡ [] → 0 < length b → ⊥
       nothing a b is none some = let zero : length b ≡ 0 = ap (λ (z : List ℕ). length z) (sym is ∙ none) in omega (arith, zero, some)
@@ -189,7 +190,7 @@ module _ (one : (x y : Reply) → IsWholeReply x → IsWholeReply y → text_of 
           too_many (y ∷ r) a b = omega (arith, a.0, b)
 
   -- where the run may have been stopped at the place where the verdict falls, it says so
-  stops_there : (v : Verdict) (number : ℕ) (rest : List (List ℕ)) (told_is : List ℕ) (falls : FallsAt number rest told_is v) (τ : Tariff) (K : Ledger) (l : List ℕ) (new : Audit) → IsSo τ K l new number rest told_is v falls
+  pub stops_there : (v : Verdict) (number : ℕ) (rest : List (List ℕ)) (told_is : List ℕ) (falls : FallsAt number rest told_is v) (τ : Tariff) (K : Ledger) (l : List ℕ) (new : Audit) → IsSo τ K l new number rest told_is v falls
       → (e : Event) → IsEvent number rest e → BeginsTold τ K l e told_is → IsStoppedAt v number
   stops_there v number rest told_is falls τ K l new so e next begins = by v falls so
     where
@@ -212,7 +213,7 @@ module _ (one : (x y : Reply) → IsWholeReply x → IsWholeReply y → text_of 
 
       by : (x : Verdict) (at : FallsAt number rest told_is x) → IsSo τ K l new number rest told_is x at → IsStoppedAt x number
       by (Lawful end) at is = absurd (not_ended end [] at)
-      by (More n) at is = absurd (not_ended at.1 at.2 at.3)
+      by (More n end) at is = absurd (not_ended end at.1 at.2)
       by (Stopped n) at is = inl (ap (λ (k : ℕ). Stopped k) at.0)
       by (Wrong n due) at is = absurd (not_wrong at.1 due (one_next number number rest e at.1 next at.2) at.3 is.1)
       by (Forged n) at is = absurd (is.0 (subst (λ (x : Event). Unforged x K) (begins.1 ∙ one_next number number rest e at.1 next at.2) begins.2.unforged))
@@ -225,7 +226,7 @@ module _ (one : (x y : Reply) → IsWholeReply x → IsWholeReply y → text_of 
     abbrev Falls : Tariff → Ledger → List ℕ → Type 0
     Falls τ K left = IsSo τ K left new (length says.pairs + 1) says.rest says.told v says.falls
 
-    beside : (τ : Tariff) (H : Ledger) (trace : List TraceStep) (fits : FitsFirst τ (Begin ∷ H) script report rates trace) → TellsSo τ (Falls τ) (Begin ∷ H) rates says.pairs
+    pub beside : (τ : Tariff) (H : Ledger) (trace : List TraceStep) (fits : FitsFirst τ (Begin ∷ H) script report rates trace) → TellsSo τ (Falls τ) (Begin ∷ H) rates says.pairs
         → Compared τ (Falls τ) (Begin ∷ H) rates says.pairs trace says.rest fits.rest says.told fits.told
     beside τ H trace fits so =
         compare one line τ (Falls τ) (Begin ∷ H) rates says.pairs trace says.rest fits.rest says.told fits.told says.prefix.each fits.each fits.go_on
@@ -255,6 +256,14 @@ module _ (one : (x y : Reply) → IsWholeReply x → IsWholeReply y → text_of 
         absurd (not_end fw.end (length trace + 1) (line_in p) (map line_in more ++ says.rest) (omega (arith, size, says.prefix.few)) (pair_passes p is)
         (subst (λ (r : List (List ℕ)). EndsAt script_grammar (status_of fw.end) (length trace + 1) r) lines fw.ends))
 
+    -- no pair is left over
+    as_long : (τ : Tariff) (H : Ledger) (trace : List TraceStep) (fw : FitsToEnd τ (Begin ∷ H) script report rates trace)
+        → Compared τ (Falls τ) (Begin ∷ H) rates says.pairs trace says.rest fw.fits.rest says.told fw.fits.told → length says.pairs ≤ length trace
+    as_long τ H trace fw (longer more K l size so reads goes lines texts are behind left) = omega (arith, size)
+    as_long τ H trace fw (shorter p more size is lines texts) =
+        absurd (not_end fw.end (length trace + 1) (line_in p) (map line_in more ++ says.rest) (omega (arith, size, says.prefix.few)) (pair_passes p is)
+        (subst (λ (r : List (List ℕ)). EndsAt script_grammar (status_of fw.end) (length trace + 1) r) lines fw.ends))
+
     -- if the run may have been stopped after them, it was
     stops_whole : (τ : Tariff) (H : Ledger) (trace : List TraceStep) (fw : FitsStopped τ (Begin ∷ H) script report rates trace)
         → Compared τ (Falls τ) (Begin ∷ H) rates says.pairs trace says.rest fw.fits.rest says.told fw.fits.told → IsStoppedAt v (length trace + 1)
@@ -274,7 +283,7 @@ module _ (one : (x y : Reply) → IsWholeReply x → IsWholeReply y → text_of 
         absurd (not_one answer (flat_map text_for more ++ says.told) (subst (λ (z : List ℕ). IsOneLine z) texts
         (prefix_one fw.fits.told fw.begins.3.0 (subst (λ (z : List ℕ). IsOneLine z) fw.begins.3.1 (line fw.begins.0.reply fw.begins.2.whole)))))
 
-    first_made : (τ : Tariff) (H : Ledger) (m : Made τ (Falls τ) (Begin ∷ H) rates says.pairs) → FitsFirst τ (Begin ∷ H) script report rates m.trace
+    unfoldable pub first_made : (τ : Tariff) (H : Ledger) (m : Made τ (Falls τ) (Begin ∷ H) rates says.pairs) → FitsFirst τ (Begin ∷ H) script report rates m.trace
     first_made τ H m = record {
       each = m.each;
       go_on = m.go_on;
@@ -323,6 +332,17 @@ module _ (one : (x y : Reply) → IsWholeReply x → IsWholeReply y → text_of 
     fits_printed τ H end prints is so printed =
         let m = made_printed τ (Falls τ) (Begin ∷ H) rates says.pairs 1 prints says.prefix.each so printed in
         (m.made.trace, record { fits = fits_made τ H end is m.made; run = m.run; prints_are = m.prints })
+
+    -- prints of steps that fit are those of the pairs
+    pub printed_back : (τ : Tariff) (H : Ledger) (prints : List ℕ) → (IsCutShort v → ⊥) → TellsSo τ (Falls τ) (Begin ∷ H) rates says.pairs → (trace : List TraceStep)
+        → FitsPrinted τ (Begin ∷ H) script report rates prints trace → ArePrinted (imprints_from 1 says.pairs) prints
+    printed_back τ H prints other so trace f =
+        let fits = f.fits.fits in
+        let compared = beside τ H trace fits so in
+        let few = no_longer τ H trace fits.rest fits.told fits.few other compared in
+        let many = as_long τ H trace f.fits compared in
+        given_back one line τ (Falls τ) (Begin ∷ H) rates says.pairs trace 1 says.rest fits.rest says.told fits.told prints says.prefix.each fits.each fits.go_on (omega (arith, few, many))
+        (sym says.prefix.script_is ∙ fits.script_is) (sym says.prefix.report_is ∙ fits.report_is) so f.run f.prints_are
 
     pub exact : IsExact v script report rates old new says
     exact = record {

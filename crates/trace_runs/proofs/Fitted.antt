@@ -75,7 +75,7 @@ module _ (τ : Tariff) (K : Ledger) (l : List ℕ) (new : Audit) (number : ℕ) 
   lawful_ends (Wrong n due) falls so end is = absurd (cc is)
   lawful_ends (Forged n) falls so end is = absurd (cc is)
   lawful_ends (Unkept n) falls so end is = absurd (cc is)
-  lawful_ends (More n) falls so end is = absurd (cc is)
+  lawful_ends (More n e) falls so end is = absurd (cc is)
   lawful_ends Memory falls so end is = absurd (cc is)
   lawful_ends (Unread input n) falls so end is = absurd (cc is)
 
@@ -90,7 +90,7 @@ module _ (τ : Tariff) (K : Ledger) (l : List ℕ) (new : Audit) (number : ℕ) 
   stopped_begins (Wrong k due) falls so n is = absurd (cc is)
   stopped_begins (Forged k) falls so n is = absurd (cc is)
   stopped_begins (Unkept k) falls so n is = absurd (cc is)
-  stopped_begins (More k) falls so n is = absurd (cc is)
+  stopped_begins (More k end) falls so n is = absurd (cc is)
   stopped_begins Memory falls so n is = absurd (cc is)
   stopped_begins (Unread input k) falls so n is = absurd (cc is)
 
@@ -101,6 +101,6 @@ none_open number rest told (Stopped n) falls end is = absurd (cc is)
 none_open number rest told (Wrong n due) falls end is = refl
 none_open number rest told (Forged n) falls end is = refl
 none_open number rest told (Unkept n) falls end is = refl
-none_open number rest told (More n) falls end is = refl
+none_open number rest told (More n e) falls end is = refl
 none_open number rest told Memory falls end is = refl
 none_open number rest told (Unread input n) falls end is = refl

@@ -14,18 +14,18 @@ use Rattle.node_turns.specs.Printing.{print_of}
 use Rattle.script_text.specs.Texts.{text_of, IsWholeReply, told}
 use Rattle.trace_bench.specs.Judging.{IsTold, text_with}
 use Rattle.trace_bench.specs.Seeing.{Audit}
-use Rattle.trace_runs.specs.Imprints.{IsGiven, GivesSo, taken_whole, failed_in}
+use Rattle.trace_runs.specs.Imprints.{IsGiven, GivesSo, taken_whole, taken_in_part}
 use Rattle.trace_runs.specs.declared.imprint.Given.{Given}
 use Rattle.scan_laws.proofs.Tells.{is_failure}
 use Rattle.scan_laws.proofs.Plans.{plan_says, only_print}
 
 -- == what the text of a print shows about it ==
 
-printed_back : (x : Reply) (j : ℕ) → told x ≡ r.Printed j → x ≡ r.Printed j
+pub printed_back : (x : Reply) (j : ℕ) → told x ≡ r.Printed j → x ≡ r.Printed j
 printed_back (r.Printed i) j is = is
 printed_back _ j is = cc
 
-fault_back : (x : Reply) (j : ℕ) → told x ≡ r.PrinterFault j → x ≡ r.PrinterFault j
+pub fault_back : (x : Reply) (j : ℕ) → told x ≡ r.PrinterFault j → x ≡ r.PrinterFault j
 fault_back (r.PrinterFault i) j is = is
 fault_back _ j is = cc
 
@@ -81,13 +81,13 @@ module _ (one : (x y : Reply) → IsWholeReply x → IsWholeReply y → text_of 
   apart : (j : ℕ) → e ≡ ev.Print j → text_of (r.PrinterFault j) ≡ line → text_of (r.Printed j) ≡ line → ⊥
   apart j is fault print = let w = ranged j is in let wrong : r.Printed j ≡ r.PrinterFault j = one (r.Printed j) (r.PrinterFault j) w.0 w.1 (print ∙ sym fault) in cc
 
-  cut_given : (j : ℕ) → reply ≡ r.PrinterFault j → (x : List ℕ) × (print_of q.after ≡ Some x) × (given ≡ Some (failed_in x))
+  cut_given : (j : ℕ) → reply ≡ r.PrinterFault j → (x : List ℕ) × (print_of q.after ≡ Some x) × (given ≡ Some (taken_in_part x))
   cut_given j is =
       let w = only_print H τ e text j (by_fault τ H e text reply t.moves j is) in
       let mark : print_of q.after ≡ Some w.1.0 = ap print_of w.1.1 in
       let due_is : due ≡ Some w.1.0 = sym (marks j w.0) ∙ mark in
       let fault : text_of (r.PrinterFault j) ≡ line = sym (ap text_of is) ∙ t.text in
-      (w.1.0, mark, gives.cut j w.0 fault (apart j w.0 fault) ∙ ap (λ (o : Option (List ℕ)). option_map failed_in o) due_is)
+      (w.1.0, mark, gives.cut j w.0 fault (apart j w.0 fault) ∙ ap (λ (o : Option (List ℕ)). option_map taken_in_part o) due_is)
 
   pub given_by : IsGiven reply (print_of q.after) given
   given_by = record {

@@ -2,13 +2,17 @@ mod Comparing
 mod Counting
 mod Exact
 mod Fitted
+mod GivenBack
 mod Giving
 mod MadePrinted
 mod Matching
 mod One
+mod OneVerdict
 mod Opening
 mod Paired
 mod Passing
+mod PrintParts
+mod Reaching
 mod WasRead
 mod ReadTurns
 mod Running

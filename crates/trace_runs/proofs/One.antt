@@ -27,7 +27,7 @@ module _ (one : (x y : Reply) → IsWholeReply x → IsWholeReply y → text_of 
     told_is : class_of d.reply ≡ class_of f.reply
     told_is = same_told d.reply f.reply may.whole may'.whole text
 
-    same_text : d.text ≡ f.text
+    pub same_text : d.text ≡ f.text
     same_text =
         may.takes ∙ ap (λ (e : Event). taken_by e (day_in H) (class_of d.reply) left) event
         ∙ ap (λ (t : ReplyClass). taken_by f.event (day_in H) t left) told_is ∙ sym may'.takes

@@ -106,6 +106,6 @@ module _ (number : ℕ) (script report rates : List ℕ) (old new : Audit) (end 
   pub over_falls : (behind : List ℕ) (v : Verdict) (before : List Imprint) → EndsWith behind → IsOver end number behind v → FellPut number script report rates old new before before v
   over_falls behind v before w over = elim over [
     | inl o ↦ subst (λ (x : Verdict). FellPut number script report rates old new before before x) (sym o.1) (lawful (subst (λ (b : List ℕ). EndsWith b) o.0 w), sym (append-nil before))
-    | inr (inl o) ↦ subst (λ (x : Verdict). FellPut number script report rates old new before before x) (sym o.1) (record { falls = (refl, end, behind, w.0, o.0); so = w.1 }, sym (append-nil before))
+    | inr (inl o) ↦ subst (λ (x : Verdict). FellPut number script report rates old new before before x) (sym o.1) (record { falls = (refl, behind, w.0, o.0); so = w.1 }, sym (append-nil before))
     | inr (inr o) ↦ subst (λ (x : Verdict). FellPut number script report rates old new before before x) (sym o) (record { falls = refl; so = λ τ H texts history seen. tt }, sym (append-nil before))
   ]

@@ -33,14 +33,14 @@ module _ (end : Ending) (number : ℕ) (left0 left1 : Option (List ℕ)) (buf : 
   pub said_lawful : ReadAs left0 left1 buf read.End → IsSaid end number left0 left1 (Lawful end)
   said_lawful r = (whole r.0 r.1 r.2.1, inl (append-nil r.0 ∙ r.2.0, refl))
 
-  said_more : (bytes : List ℕ) → Consumes left0 left1 bytes → 0 < length bytes → IsSaid end number left0 left1 (More number)
+  said_more : (bytes : List ℕ) → Consumes left0 left1 bytes → 0 < length bytes → IsSaid end number left0 left1 (More number end)
   said_more bytes consumed more = (some bytes consumed, λ told. inr (inl (omega (arith, more, length-append bytes told), refl)))
 
-  pub said_line : (len : ℕ) (is_ended : Bool) → ReadAs left0 left1 buf (read.Line len is_ended) → IsSaid end number left0 left1 (More number)
+  pub said_line : (len : ℕ) (is_ended : Bool) → ReadAs left0 left1 buf (read.Line len is_ended) → IsSaid end number left0 left1 (More number end)
   said_line len true r = said_more r.0 r.1 (let long : length r.0 ≡ length (take len buf) + 1 = ap (λ (l : List ℕ). length l) r.2.2 ∙ length-append (take len buf) (10 ∷ []) in omega (arith, long))
   said_line len false r = said_more r.0 r.1 (let long : length r.0 ≡ length (take len buf) = ap (λ (l : List ℕ). length l) r.2.2.0 in omega (arith, long, r.2.2.1))
 
-  pub said_long : ReadAs left0 left1 buf read.Long → IsSaid end number left0 left1 (More number)
+  pub said_long : ReadAs left0 left1 buf read.Long → IsSaid end number left0 left1 (More number end)
   said_long r = said_more r.0 r.1 (omega (arith, r.2.1))
 
 -- == the answer to an event ==

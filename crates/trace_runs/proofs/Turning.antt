@@ -88,7 +88,7 @@ module _ (number : ℕ) (inside : number ≤ 1000000) (script line lines : List 
   stops Memory before after one unforged stop = (record { falls = (e, is_event); so = λ τ H texts history seen. tt }, stop ∙ sym (append-nil before))
   stops (Unread text n) before after one unforged stop = absurd stop
   stops (Lawful end) before after one unforged stop = absurd stop
-  stops (More n) before after one unforged stop = absurd stop
+  stops (More n end) before after one unforged stop = absurd stop
   stops (Forged n) before after one unforged stop = absurd stop
   stops (Unkept n) before after one unforged stop = absurd stop
 
@@ -113,7 +113,7 @@ module _ (number : ℕ) (inside : number ≤ 1000000) (script line lines : List 
   )
   too_long Memory prefix behind before after is one never unforged stop = (record { falls = (e, is_event); so = λ τ H texts history seen. tt }, stop ∙ sym (append-nil before))
   too_long (Lawful end) prefix behind before after is one never unforged stop = absurd stop
-  too_long (More n) prefix behind before after is one never unforged stop = absurd stop
+  too_long (More n end) prefix behind before after is one never unforged stop = absurd stop
   too_long (Forged n) prefix behind before after is one never unforged stop = absurd stop
   too_long (Unkept n) prefix behind before after is one never unforged stop = absurd stop
   too_long (Unread text n) prefix behind before after is one never unforged stop = absurd stop

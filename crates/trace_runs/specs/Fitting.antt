@@ -1,8 +1,9 @@
 -- What steps fit a script and its report, prints aside; and how the verdict of an audit stands to them.
-use Rattle.std.specs.Prelude.{◌≡◌, ℕ, ◌+◌, ◌≤◌, List, [], ◌∷◌, ◌++◌, length, map, drop, ◌⊎◌}
+use Rattle.std.specs.Prelude.{◌≡◌, ◌↔◌, ℕ, ◌+◌, ◌≤◌, List, [], ◌∷◌, ◌++◌, length, map, drop, ◌⊎◌}
 use Rattle.std.specs.List.{AllByRecursion}
-use Rattle.bench_base.specs.declared.{events.Event.Event, ledger.Entry.TheVariants.Begin}
+use Rattle.bench_base.specs.declared.{events.Event.Event, events.Reply.Reply, ledger.Entry.TheVariants.Begin}
 use Rattle.bench_base.specs.declared.events.Event.TheVariants as ev
+use Rattle.bench_base.specs.declared.events.Reply.TheVariants as r
 use Rattle.bench_base.specs.Ledger.{Ledger}
 use Rattle.bench_base.specs.Rules.{editions}
 use Rattle.bench_abstraction.specs.Tariff.{IsOfTexts}
@@ -13,7 +14,7 @@ use Rattle.line_runs.specs.Trace.{Reads, report_of}
 use Rattle.line_runs.specs.Ends.{lines_of, EndsAt}
 use Rattle.line_extensions.specs.Trace.{StepRecord, TraceStep, GoesOn, done_in, line_in, line_of}
 use Rattle.line_extensions.specs.Scripts.{script_lines, script_grammar}
-use Rattle.script_replay.specs.Trace.{ledger_by, ledger_after, printed_of}
+use Rattle.script_replay.specs.Trace.{ledger_by, ledger_after}
 use Rattle.trace_bench.specs.Seeing.{Audit, Sees}
 use Rattle.trace_bench.specs.Stopping.{IsPrefixOf}
 use Rattle.trace_runs.specs.Audits.{MayTell, IsRun}
@@ -30,6 +31,15 @@ AreTold τ H left (d ∷ rest) = MayTell τ H left d × AreTold τ (ledger_by τ
 abbrev pub rates_after : List ℕ → List StepRecord → List ℕ
 rates_after left [] = left
 rates_after left (d ∷ rest) = rates_after (drop (length d.text) left) rest
+
+-- nothing; or, after a printer fault, a line end with which somebody ended the line by hand
+abbrev pub IsByHand : Reply → List ℕ → Type 0
+IsByHand reply hand = (hand ≡ []) ⊎ ((job : ℕ) × (reply ≡ r.PrinterFault job) × (hand ≡ 10 ∷ []))
+
+-- the prints have what the printer took in these steps, in turn, and line ends that were put there by hand
+abbrev pub HavePrints : List StepRecord → List ℕ → Type 0
+HavePrints [] prints = prints ≡ []
+HavePrints (d ∷ trace) prints = (hand rest : List ℕ) × (prints ≡ d.printed ++ (hand ++ rest)) × IsByHand d.reply hand × HavePrints trace rest
 
 -- At this ledger, with these rates left, what is left of the report is the line of a reply that `end` may get; or it is nothing, where the script
 -- ends otherwise.
@@ -69,11 +79,11 @@ module _ (τ : Tariff) (H : Ledger) (script report rates : List ℕ) where
     pub next : IsEvent (length trace + 1) fits.rest event
     pub begins : BeginsTold τ (ledger_after τ H (done_in trace)) (rates_after rates (done_in trace)) event fits.told
 
-  -- They fit to the end, and print these bytes.
+  -- They fit to the end, and these are their prints.
   pub record FitsPrinted (prints : List ℕ) (trace : List TraceStep) : Type 0 where
     pub fits : FitsToEnd trace
     pub run : IsRun τ H rates (done_in trace)
-    pub prints_are : prints ≡ printed_of (done_in trace)
+    pub prints_are : HavePrints (done_in trace) prints
 
 -- no more was judged, since there was no memory, or an input could not be read, or an event contains bytes and the auditor keeps nothing to
 -- recognize forged ones
@@ -83,7 +93,7 @@ IsCutShort (Stopped n) = ⊥
 IsCutShort (Wrong n due) = ⊥
 IsCutShort (Forged n) = ⊥
 IsCutShort (Unkept n) = Unit {0}
-IsCutShort (More n) = ⊥
+IsCutShort (More n end) = ⊥
 IsCutShort Memory = Unit {0}
 IsCutShort (Unread input n) = Unit {0}
 
@@ -112,8 +122,14 @@ pub record IsExact (v : Verdict) (script report rates : List ℕ) (old new : Aud
   pub stopped : (n : ℕ) → v ≡ Stopped n
       → AtSeen old (λ τ H. (trace : List TraceStep) × FitsStopped τ H script report rates trace)
 
--- If an audit of a run says that it is lawful, and these are the prints of what was given, some steps fit that print them.
+-- ONE VERDICT. Two verdicts over the same script, report and rates, by auditors that had the same before, are equal if neither was cut short. It takes
+-- one history that they saw as the run began.
+abbrev pub AreEqual : Verdict → Verdict → List ℕ → List ℕ → List ℕ → Audit → Audit → Audit → Type 0
+AreEqual v w script report rates old new other =
+    Says v script report rates old new → Says w script report rates old other → (IsCutShort v → ⊥) → (IsCutShort w → ⊥) → AtSeen old (λ τ H. v ≡ w)
+
+-- If an audit of a run says that it is lawful, prints are those of what was given in it if and only if they are the prints of some steps that fit.
 abbrev pub PrintsFit : Verdict → List ℕ → List ℕ → List ℕ → Audit → Audit → List Imprint → Type 0
 PrintsFit v script report rates old new given =
-    (a : Audited v script report rates old new [] given) (end : Ending) (prints : List ℕ) → v ≡ Lawful end → ArePrinted given prints
-    → AtSeen old (λ τ H. (trace : List TraceStep) × FitsPrinted τ H script report rates prints trace)
+    (a : Audited v script report rates old new [] given) (end : Ending) (prints : List ℕ) → v ≡ Lawful end
+    → AtSeen old (λ τ H. ArePrinted given prints ↔ ((trace : List TraceStep) × FitsPrinted τ H script report rates prints trace))

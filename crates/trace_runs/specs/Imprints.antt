@@ -1,5 +1,5 @@
 -- What the printer was given in the events of a run.
-use Rattle.std.specs.Prelude.{◌≡◌, ◌≢◌, ◌↔◌, ℕ, List, [], ◌∷◌, Option, Some, None, option_map}
+use Rattle.std.specs.Prelude.{◌≡◌, ◌≢◌, ℕ, List, [], ◌∷◌, Option, Some, None, option_map}
 use Rattle.bench_base.specs.declared.{events.Event.Event, events.Reply.Reply}
 use Rattle.bench_base.specs.declared.events.Event.TheVariants as ev
 use Rattle.bench_base.specs.declared.events.Reply.TheVariants as r
@@ -12,29 +12,27 @@ use Rattle.node_turns.specs.Printing.{print_of}
 use Rattle.script_text.specs.Texts.{text_of}
 use Rattle.trace_bench.specs.Seeing.{Audit, Sees}
 use Rattle.trace_bench.specs.Stopping.{IsPrefixOf}
-use Rattle.trace_runs.specs.declared.{imprint.Given.Given, imprint.Imprint.Imprint, imprint.Printed.Printed, imprint.Printed.TheVariants.Whole, imprint.Printed.TheVariants.Failed, imprint.Printed.TheVariants.Stopped}
+use Rattle.trace_runs.specs.declared.{imprint.Given.Given, imprint.Imprint.Imprint, imprint.Printed.Printed, imprint.Printed.TheVariants.Whole, imprint.Printed.TheVariants.Part}
 
--- a mark with its whole line taken, or with a failure of the printer in its line
+-- a mark with its whole line taken, or with a part of it, since the printer failed
 abbrev pub taken_whole : List ℕ → Given
 taken_whole mark = record { mark = mark; taken = Whole }
 
-abbrev pub failed_in : List ℕ → Given
-failed_in mark = record { mark = mark; taken = Failed }
+abbrev pub taken_in_part : List ℕ → Given
+taken_in_part mark = record { mark = mark; taken = Part }
 
 -- In an event with this reply and a plan that prints this mark, the printer was given this. It is the mark, if the reply is `printed` or a printer
 -- fault, and nothing otherwise.
 pub record IsGiven (reply : Reply) (mark : Option (List ℕ)) (given : Option Given) : Type 0 where
   pub whole : (job : ℕ) → reply ≡ r.Printed job → (x : List ℕ) × (mark ≡ Some x) × (given ≡ Some (taken_whole x))
-  pub cut : (job : ℕ) → reply ≡ r.PrinterFault job → (x : List ℕ) × (mark ≡ Some x) × (given ≡ Some (failed_in x))
+  pub cut : (job : ℕ) → reply ≡ r.PrinterFault job → (x : List ℕ) × (mark ≡ Some x) × (given ≡ Some (taken_in_part x))
   pub none : ((job : ℕ) → reply ≢ r.Printed job) → ((job : ℕ) → reply ≢ r.PrinterFault job) → given ≡ None
 
 -- What the printer took in a `print` of this job, if the report ends with this prefix of its answer. It took the whole line of the mark, if
--- `printed` alone begins so. It took not all of it, if `printer fault` alone begins so. It took none, some or all of it, if both begin so, or
--- neither does.
+-- `printed` alone begins so. Otherwise it took none, some or all of it.
 pub data IsTaken (j : ℕ) (prefix : List ℕ) : Printed → Type 0 where
   whole : IsPrefixOf prefix (text_of (r.Printed j)) → (IsPrefixOf prefix (text_of (r.PrinterFault j)) → ⊥) → IsTaken j prefix Whole
-  failed : (IsPrefixOf prefix (text_of (r.Printed j)) → ⊥) → IsPrefixOf prefix (text_of (r.PrinterFault j)) → IsTaken j prefix Failed
-  stopped : IsPrefixOf prefix (text_of (r.Printed j)) ↔ IsPrefixOf prefix (text_of (r.PrinterFault j)) → IsTaken j prefix Stopped
+  part : (IsPrefixOf prefix (text_of (r.Printed j)) → IsPrefixOf prefix (text_of (r.PrinterFault j))) → IsTaken j prefix Part
 
 -- the printer was given this mark there, and took so much of it; or nothing, if no mark is due
 abbrev pub IsGivenAt : ℕ → List ℕ → Option (List ℕ) → Option Given → Type 0
@@ -62,7 +60,7 @@ IsDueMark a e due = (j : ℕ) → e ≡ ev.Print j → (τ : Tariff) (H : Ledger
 -- a `print` with a plan that prints this mark, and with this line of the report, gave this; any other event gave nothing
 pub record GivesSo (e : Event) (due : Option (List ℕ)) (line : List ℕ) (given : Option Given) : Type 0 where
   pub whole : (j : ℕ) → e ≡ ev.Print j → text_of (r.Printed j) ≡ line → given ≡ option_map taken_whole due
-  pub cut : (j : ℕ) → e ≡ ev.Print j → text_of (r.PrinterFault j) ≡ line → text_of (r.Printed j) ≢ line → given ≡ option_map failed_in due
+  pub cut : (j : ℕ) → e ≡ ev.Print j → text_of (r.PrinterFault j) ≡ line → text_of (r.Printed j) ≢ line → given ≡ option_map taken_in_part due
   pub none : ((j : ℕ) → e ≡ ev.Print j → (text_of (r.Printed j) ≢ line) × (text_of (r.PrinterFault j) ≢ line)) → given ≡ None
 
 -- a `print` with a plan that prints this mark gave this, if the report ends with this prefix of its line; any other event gave nothing

@@ -7,6 +7,7 @@ pub mod Prints
 pub mod Reads
 pub mod Verdicts
 -- Bookkeeping: private calls and proofs alone name these.
+pub mod Places
 pub mod Stops
 pub mod Takes
 pub mod Turns

@@ -1,63 +1,41 @@
--- Whether bytes are what a printer took that was given this.
-use Rattle.std.specs.Prelude.{◌≡◌, ◌≢◌, ℕ, zero, suc, List, [], ◌∷◌, ◌++◌, drop, length}
+-- Whether bytes are what the prints have of marks that the printer was given.
+use Rattle.std.specs.Prelude.{◌≡◌, ◌⊎◌, ℕ, zero, suc, ◌+◌, ◌≤◌, List, [], ◌∷◌, ◌++◌, drop, length}
+use Rattle.hex.specs.Hex.{encode_lower}
 use Rattle.text_streams.specs.Texts.{print_line}
-use Rattle.line_runs.specs.Lines.{IsCutOff}
+use Rattle.line_runs.specs.Lines.{ended}
 use Rattle.trace_bench.specs.Stopping.{IsPrefixOf}
-use Rattle.trace_runs.specs.declared.{imprint.Imprint.Imprint, imprint.Printed.Printed, imprint.Printed.TheVariants.Whole, imprint.Printed.TheVariants.Failed, imprint.Printed.TheVariants.Stopped, prints.Match.Match, prints.Match.TheVariants.Fit, prints.Match.TheVariants.Differ, prints.Match.TheVariants.Open}
+use Rattle.trace_runs.specs.declared.{imprint.Imprint.Imprint, imprint.Printed.Printed, imprint.Printed.TheVariants.Whole, imprint.Printed.TheVariants.Part, prints.Match.Match, prints.Match.TheVariants.Fit, prints.Match.TheVariants.Differ}
 
--- The printer took the whole line of a mark; it failed in it, and took a prefix that isn't all of it; or the run was stopped there, and it
--- took none, some or all of it.
+-- Some of the digits of a mark, none or all, with a line end after them or without: the printer took these bytes, or somebody ended the line by hand.
+abbrev pub IsPart : List ℕ → List ℕ → Type 0
+IsPart digits piece = (part : List ℕ) × IsPrefixOf part digits × ((piece ≡ part) ⊎ (piece ≡ ended part))
+
+-- The prints have this of a mark: its whole line, or a part of it, if the printer failed there or the run was stopped.
 abbrev pub Took : Printed → List ℕ → List ℕ → Type 0
 Took Whole mark piece = piece ≡ print_line mark
-Took Failed mark piece = IsCutOff piece (print_line mark)
-Took Stopped mark piece = IsPrefixOf piece (print_line mark)
+Took Part mark piece = IsPart (encode_lower mark) piece
 
--- the bytes are what it took of each in turn
+-- the bytes are what the prints have of each in turn
 abbrev pub ArePrinted : List Imprint → List ℕ → Type 0
 ArePrinted [] bytes = bytes ≡ []
 ArePrinted (i ∷ imprints) bytes = (piece rest : List ℕ) × (bytes ≡ piece ++ rest) × Took i.given.taken i.given.mark piece × ArePrinted imprints rest
 
--- the printer took the whole line of this one
-abbrev pub IsWhole : Imprint → Type 0
-IsWhole i = i.given.taken ≡ Whole
-
--- so many imprints are there and were taken whole, the bytes begin with their lines, and this is left after them
+-- the bytes begin with what the prints have of so many of these in turn, and this is left after it
 abbrev pub FitsUpTo : List Imprint → List ℕ → ℕ → List ℕ → Type 0
 FitsUpTo imprints bytes zero rest = bytes ≡ rest
 FitsUpTo [] bytes (suc place) rest = ⊥
-FitsUpTo (i ∷ imprints) bytes (suc place) rest = IsWhole i × (more : List ℕ) × (bytes ≡ print_line i.given.mark ++ more) × FitsUpTo imprints more place rest
-
--- the first of these was not taken whole
-abbrev pub BeginsOpen : List Imprint → Type 0
-BeginsOpen [] = ⊥
-BeginsOpen (i ∷ imprints) = IsWhole i → ⊥
-
--- the first of these was taken whole, and the bytes don't begin with its line; or there is no imprint, and bytes are left over
-abbrev pub BeginsOther : List Imprint → List ℕ → Type 0
-BeginsOther [] bytes = bytes ≢ []
-BeginsOther (i ∷ imprints) bytes = IsWhole i × ((more : List ℕ) → bytes ≢ print_line i.given.mark ++ more)
+FitsUpTo (i ∷ imprints) bytes (suc place) rest =
+    (piece more : List ℕ) × (bytes ≡ piece ++ more) × Took i.given.taken i.given.mark piece × FitsUpTo imprints more place rest
 
 module _ (imprints : List Imprint) (bytes : List ℕ) where
-  -- all imprints were taken whole, and the bytes are their lines
-  pub record IsFit : Type 0 where
-    pub fits : FitsUpTo imprints bytes (length imprints) []
-    pub printed : ArePrinted imprints bytes
-
-  -- The bytes fit before the imprint in this place, and there they don't: they are what no printer took of the imprints.
-  pub record DiffersAt (place : ℕ) : Type 0 where
-    pub rest : List ℕ
-    pub fits : FitsUpTo imprints bytes place rest
-    pub other : BeginsOther (drop place imprints) rest
+  -- The imprints before this one can fit, and leave the bytes after so many. More of them can't, and the bytes are not those of all.
+  pub record DiffersAt (place at : ℕ) : Type 0 where
+    pub inside : at ≤ length bytes
+    pub fits : FitsUpTo imprints bytes place (drop at bytes)
+    pub no_further : (rest : List ℕ) → FitsUpTo imprints bytes (place + 1) rest → ⊥
     pub unprinted : ArePrinted imprints bytes → ⊥
 
-  -- the bytes fit before the imprint in this place, which was not taken whole
-  pub record IsOpenAt (place : ℕ) : Type 0 where
-    pub rest : List ℕ
-    pub fits : FitsUpTo imprints bytes place rest
-    pub opens : BeginsOpen (drop place imprints)
-
-  -- WHAT IS FOUND OF PRINTS: they are those of the imprints; they aren't, from this place on; or that isn't decided from this place on
+  -- WHAT IS FOUND OF PRINTS: they are those of the imprints, or they aren't, whatever is left of lines that were not taken whole
   abbrev pub Matches : Match → Type 0
-  Matches Fit = IsFit
-  Matches (Differ place) = DiffersAt place
-  Matches (Open place) = IsOpenAt place
+  Matches Fit = ArePrinted imprints bytes
+  Matches (Differ place at) = DiffersAt place at

@@ -24,7 +24,7 @@ module _ (number : ℕ) (e : Event) (report rates : List ℕ) (old new : Audit) 
   StopsSo (Wrong n due) = (n ≡ number) × AtEach old e (λ τ H. IsUnbegun τ H e rates report new due) × (after ≡ before)
   StopsSo Memory = after ≡ before
   StopsSo (Lawful end) = ⊥
-  StopsSo (More n) = ⊥
+  StopsSo (More n end) = ⊥
   StopsSo (Forged n) = ⊥
   StopsSo (Unkept n) = ⊥
   StopsSo (Unread input n) = ⊥

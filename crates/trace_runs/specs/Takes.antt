@@ -24,7 +24,7 @@ answers_behind (Stopped n) = 0
 answers_behind (Wrong n due) = 0
 answers_behind (Forged n) = 0
 answers_behind (Unkept n) = 0
-answers_behind (More n) = 0
+answers_behind (More n end) = 0
 answers_behind Memory = 0
 answers_behind (Unread input n) = 0
 

@@ -71,7 +71,7 @@ pub record BeginsWith (script line lines : List ℕ) (e : Event) : Type 0 where
 
 -- what is said where the script ends at the line of this number, and this is left of the report, unless it fails
 abbrev pub IsOver : Ending → ℕ → List ℕ → Verdict → Type 0
-IsOver end number behind v = ((behind ≡ []) × (v ≡ Lawful end)) ⊎ ((0 < length behind) × (v ≡ More number)) ⊎ (v ≡ Unread Report number)
+IsOver end number behind v = ((behind ≡ []) × (v ≡ Lawful end)) ⊎ ((0 < length behind) × (v ≡ More number end)) ⊎ (v ≡ Unread Report number)
 
 -- == by what was read ==
 

@@ -102,14 +102,14 @@ pub record EndsSo (number : ℕ) (rest : List (List ℕ)) (told : List ℕ) (end
 
 -- The verdict falls at the line of this number, with these lines of the script and these bytes of the report left.
 -- `Lawful`: the two end together.
--- `More`: the report goes on after the end of the script.
+-- `More`: the script ends so, and the report goes on after that.
 -- `Stopped`: the report ends before the line end of the next answer, and this is open of what was printed.
 -- `Wrong`: the report has a line for the next event, or ends before its line end, which the event can't get.
 -- `Forged`, `Unkept`, `Memory`: there is a next event, which contains something forged, or contains bytes, or lacked memory.
 -- `Unread`: the script or the report could not be read there.
 abbrev pub FallsAt : ℕ → List (List ℕ) → List ℕ → Verdict → Type 0
 FallsAt number rest told (Lawful end) = EndsSo number rest told end []
-FallsAt number rest told (More n) = (n ≡ number) × (end : Ending) × (behind : List ℕ) × EndsSo number rest told end behind × (0 < length behind)
+FallsAt number rest told (More n end) = (n ≡ number) × (behind : List ℕ) × EndsSo number rest told end behind × (0 < length behind)
 FallsAt number rest told (Stopped n) = (n ≡ number) × (e : Event) × (given : Option Given) × IsEvent number rest e × IsOneLine told
 FallsAt number rest told (Wrong n due) = (n ≡ number) × (e : Event) × IsEvent number rest e × HasSome told
 FallsAt number rest told (Forged n) = (n ≡ number) × (e : Event) × IsEvent number rest e
@@ -120,7 +120,7 @@ FallsAt number rest told (Unread input n) = n ≡ number
 -- what is open of what was printed, where the run was stopped
 abbrev pub last_given : (number : ℕ) (rest : List (List ℕ)) (told : List ℕ) (v : Verdict) → FallsAt number rest told v → Option Given
 last_given number rest told (Lawful end) at = None
-last_given number rest told (More n) at = None
+last_given number rest told (More n end) at = None
 last_given number rest told (Stopped n) at = at.2
 last_given number rest told (Wrong n due) at = None
 last_given number rest told (Forged n) at = None
@@ -167,7 +167,7 @@ module _ (τ : Tariff) (H : Ledger) (left : List ℕ) (now : Audit) where
   -- `Unkept`: the auditor does not keep what was sent and released.
   abbrev pub IsSo : (number : ℕ) (rest : List (List ℕ)) (told : List ℕ) (v : Verdict) → FallsAt number rest told v → Type 0
   IsSo number rest told (Lawful end) at = MayEnd end told [] at.report
-  IsSo number rest told (More n) at = MayEnd at.1 told at.2 at.3.report
+  IsSo number rest told (More n end) at = MayEnd end told at.1 at.2.report
   IsSo number rest told (Stopped n) at = Unforged at.1 H × IsBegun τ H at.1 left told now × IsLeftOpen τ H at.1 told at.2
   IsSo number rest told (Wrong n due) at = Unforged at.1 H × IsWrong at.1 due told at.3
   IsSo number rest told (Forged n) at = (Unforged at.1 H → ⊥) × Sees now H

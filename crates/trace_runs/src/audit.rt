@@ -53,7 +53,7 @@ fn judged(verdict: Verdict, answers: u32) -> Judgment
         | Verdict::Wrong(_, _)
         | Verdict::Forged(_)
         | Verdict::Unkept(_)
-        | Verdict::More(_)
+        | Verdict::More(_, _)
         | Verdict::Memory
         | Verdict::Unread(_, _) => 0,
     };

@@ -40,8 +40,8 @@ pub(crate) fn over<R: Source>(end: Ending, number: u32, report: &mut ReadAhead<R
     let mut buf = [0; 600];
     match read_line(report, &mut buf) {
         LineRead::End => Verdict::Lawful(end),
-        LineRead::Line(_, _) => Verdict::More(number),
-        LineRead::Long => Verdict::More(number),
+        LineRead::Line(_, _) => Verdict::More(number, end),
+        LineRead::Long => Verdict::More(number, end),
         LineRead::Fault => Verdict::Unread(Input::Report, number),
     }
 }

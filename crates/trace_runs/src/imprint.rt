@@ -14,10 +14,8 @@ use trace_nodes::is_told;
 pub enum Printed {
     /// The whole line.
     Whole,
-    /// The first bytes of it, or none, but not all: the printer failed in it.
-    Failed,
-    /// None, some or all of it: the run was stopped there.
-    Stopped,
+    /// None, some or all of it: the printer failed in it, or the run was stopped there.
+    Part,
 }
 
 /// What the printer was given in an event: a mark, and what it took of its line.
@@ -64,26 +62,24 @@ pub(crate) fn given_in(event: &Event, due: Option<[u8; 64]>, line: &[u8]) -> Opt
     if is_told(&Reply::PrinterFault(*job), line) {
         return Some(Given {
             mark,
-            taken: Printed::Failed,
+            taken: Printed::Part,
         });
     }
     None
 }
 
-// What the printer took in a `print` of this job, if the report ends with this prefix of its answer. It took the whole line of the mark, or not all
-// of it, if the prefix decides that. Otherwise it took none, some or all of it.
+// What the printer took in a `print` of this job, if the report ends with this prefix of its answer: the whole line of the mark, if `printed` alone
+// begins so, and otherwise none, some or all of it.
 fn taken_by(job: u32, prefix: &[u8]) -> Printed
     ensures { IsTaken job prefix.now result }
 {
-    let is_whole = begins(&Reply::Printed(job), prefix);
-    let is_cut = begins(&Reply::PrinterFault(job), prefix);
-    if is_whole == is_cut {
-        return Printed::Stopped;
+    if begins(&Reply::PrinterFault(job), prefix) {
+        return Printed::Part;
     }
-    if is_whole {
+    if begins(&Reply::Printed(job), prefix) {
         Printed::Whole
     } else {
-        Printed::Failed
+        Printed::Part
     }
 }
 

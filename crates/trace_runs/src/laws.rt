@@ -10,7 +10,7 @@ ghost use Rattle.line_extensions.specs.Trace.{StepRecord};
 ghost use Rattle.script_replay.specs.Trace.{ledger_after};
 ghost use Rattle.trace_bench.specs.Seeing.{Audit};
 ghost use Rattle.trace_runs.specs.Audits.{IsRun, AreAlike, Fits, ledger_left};
-ghost use Rattle.trace_runs.specs.Fitting.{AreTold, IsExact, PrintsFit};
+ghost use Rattle.trace_runs.specs.Fitting.{AreEqual, AreTold, IsExact, PrintsFit};
 ghost use Rattle.trace_runs.specs.Verdicts.{Audited, AuditedOf, Says};
 ghost use Rattle.trace_runs.specs.declared.{imprint.Imprint.Imprint, verdict.Verdict.Verdict};
 
@@ -48,7 +48,19 @@ pub fn audits_are_exact()
     one_line();
 }
 
-/// Prints fit the steps of a run that is lawful, where they are those of what the audit says that the printer was given in it.
+/// The verdict is one. Two verdicts over the same script, report and rates, by auditors that had the same before the run, are equal: in the line, in how
+/// the script had ended, and in the answer that was due. Neither may be cut short: memory ran out, a source could not be read, or the auditor keeps
+/// nothing by which it could recognize forged bytes. And it assumes that the auditors see a history as the run begins, by a tariff of texts. New
+/// auditors see the empty one, and each run that is lawful or stopped leaves them one.
+pub fn one_verdict()
+    ensures { (v w : Verdict) (script report rates : List ℕ) (old new other : Audit) → AreEqual v w script report rates old new other }
+{
+    one_reply();
+    one_line();
+}
+
+/// Prints are those of what the audit says that the printer was given in a lawful run if and only if they are the prints of some steps that fit. So if
+/// they aren't, no lawful run with this script and this report prints so.
 pub fn prints_fit()
     ensures { (v : Verdict) (script report rates : List ℕ) (old new : Audit) (given : List Imprint) → PrintsFit v script report rates old new given }
 {

@@ -6,6 +6,8 @@ pub mod audit;
 mod ends;
 pub mod imprint;
 pub mod laws;
+mod parts;
+mod places;
 pub mod prints;
 mod stopping;
 pub mod verdict;

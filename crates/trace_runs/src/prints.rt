@@ -1,54 +1,19 @@
 //! Whether prints are those that reports show.
-ghost use Rattle.std.specs.Prelude.{◌≡◌, ◌↔◌, ◌+◌, ◌<◌, ◌∷◌, IsTrue, drop, length, take};
-ghost use Rattle.text_streams.specs.Texts.{print_line};
+ghost use Rattle.std.specs.Prelude.{◌≡◌, ◌+◌, ◌<◌, ◌∷◌, IfOk, drop, length};
 ghost use Rattle.trace_runs.specs.Prints.{Matches};
 
-use crate::audit::behind;
-use crate::imprint::{Imprint, Printed};
-use text_streams::put_digits;
-
-/// The bytes of the line of a mark: two hexadecimal digits for each of its 64 bytes, and the line end.
-const LINE: usize = 129;
+use crate::imprint::Imprint;
+use crate::places::{Places, after, has, one_of};
+use std::alloc::{AllocError, Global};
 
 /// What is found of prints.
 #[derive(Clone, Copy)]
 pub enum Match {
     /// They are those of the imprints.
     Fit,
-    /// They aren't: they fit before the imprint in this place, counted from 0, and there is not its line; where it is the number of
-    /// imprints, all fit, and bytes are left over.
-    Differ(usize),
-    /// They fit before the imprint in this place. There the printer failed or the run was stopped; what is printed from there on is not judged.
-    Open(usize),
-}
-
-// The line of a mark, as it is printed.
-fn line_of(mark: &[u8; 64]) -> [u8; 129]
-    ensures { result ≡ print_line mark.now }
-{
-    let mut line = [b'\n'; LINE];
-    put_digits(mark.as_slice(), &mut line[..LINE - 1]);
-    line
-}
-
-// Whether this is the line of the mark.
-fn is_line(mark: &[u8; 64], line: &[u8]) -> bool
-    ensures exact { IsTrue result ↔ (line.now ≡ print_line mark.now) }
-    ensures long { length (print_line mark.now) ≡ 129 }
-{
-    let due = line_of(mark);
-    due.as_slice() == line
-}
-
-// As many bytes as a line has, where so many are left.
-fn first_of(prints: &[u8]) -> &[u8]
-    ensures { result.now ≡ take 129 prints.now }
-{
-    if prints.len() < LINE {
-        prints
-    } else {
-        &prints[..LINE]
-    }
+    /// They aren't, whatever is left of the lines that the printer did not take whole. The imprints before the one in this place, counted from 0, can fit,
+    /// with the bytes left that follow so many; more imprints can't. If it is the number of imprints, all can fit, and bytes are left over.
+    Differ(usize, usize),
 }
 
 // The imprint in this place, and those after it.
@@ -59,25 +24,26 @@ fn imprint_in(imprints: &[Imprint], place: usize) -> Imprint
     imprints[place]
 }
 
-/// Whether the prints are those of the imprints of all runs, in order, as far as the printer took whole lines.
-pub fn match_prints(imprints: &[Imprint], prints: &[u8]) -> Match
-    ensures { Matches imprints.now prints.now result }
+/// Whether the prints are those of the imprints of all runs, in order. Where the printer did not take the whole line of a mark, some of its digits may be
+/// printed, none or all, and a line end after them, with which somebody ended the line by hand.
+///
+/// It goes through the imprints once, with all places of the prints that can be reached so far. A whole line leaves one of them, or none. AllocError is
+/// lack of memory for these, which is 16 bytes, and as much again for each further way in which the prints can be read.
+pub fn match_prints(alloc: Global, imprints: &[Imprint], prints: &[u8]) -> Result<Match, AllocError>
+    ensures { IfOk result (Matches imprints.now prints.now) }
 {
-    let mut rest = prints;
+    let mut all = Vec::new(alloc);
+    all.push(Places { first: 0, last: 0 })?;
     for place in 0..imprints.len() {
-        let imprint = imprint_in(imprints, place);
-        match imprint.given.taken {
-            Printed::Whole => {}
-            Printed::Failed | Printed::Stopped => return Match::Open(place),
+        let found = after(alloc, &imprint_in(imprints, place), prints, all.as_slice())?;
+        if found.as_slice().is_empty() {
+            return Ok(Match::Differ(place, one_of(all.as_slice(), prints.len())));
         }
-        if !is_line(&imprint.given.mark, first_of(rest)) {
-            return Match::Differ(place);
-        }
-        rest = behind(rest, LINE);
+        all = found;
     }
-    if rest.is_empty() {
-        Match::Fit
+    if has(all.as_slice(), prints.len()) {
+        Ok(Match::Fit)
     } else {
-        Match::Differ(imprints.len())
+        Ok(Match::Differ(imprints.len(), one_of(all.as_slice(), prints.len())))
     }
 }

@@ -38,8 +38,8 @@ pub enum Verdict {
     /// The lines before the line of this number may be so, and its event contains bytes. But the auditor does not keep what was sent and released,
     /// so it can't recognize forged ones.
     Unkept(u32),
-    /// The script ends at the line of this number, and the report goes on.
-    More(u32),
+    /// The script ends so at the line of this number, and the report goes on after that.
+    More(u32, Ending),
     /// There was no memory, for rates or for a message.
     Memory,
     /// This failed to be read at the line of this number. The lines before it may be so.

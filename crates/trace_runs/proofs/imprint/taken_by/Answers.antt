@@ -1,14 +1,11 @@
-use Rattle.trace_runs.proofs.Opening.{takes_either, takes_whole, takes_part}
+use Rattle.trace_runs.proofs.Opening.{takes_fault, takes_whole, takes_neither}
 use Rattle.trace_runs.proofs.imprint.taken_by.Goals as goal
 
-pub returns-then-is_whole-is_cut : goal.returns-then-is_whole-is_cut
-returns-then-is_whole-is_cut c =
-    takes_either c.args.job c.args.prefix.now c.begins-is_whole.result c.begins-is_cut.result c.begins-is_whole.ensures.exact c.begins-is_cut.ensures.exact c.if-is_whole-is_cut.true
+pub returns-then-begins : goal.returns-then-begins
+returns-then-begins c = takes_fault c.args.job c.args.prefix.now c.begins.result c.begins.ensures.exact c.if-begins.true
 
-pub returns-then-is_whole : goal.returns-then-is_whole
-returns-then-is_whole c =
-    takes_whole c.args.job c.args.prefix.now c.begins-is_whole.result c.begins-is_cut.result c.begins-is_whole.ensures.exact c.begins-is_cut.ensures.exact c.if-is_whole-is_cut.false c.if-is_whole.true
+pub returns-then-begins-2 : goal.returns-then-begins-2
+returns-then-begins-2 c = takes_whole c.args.job c.args.prefix.now c.begins.result c.begins.ensures.exact c.begins-2.result c.begins-2.ensures.exact c.if-begins.false c.if-begins-2.true
 
-pub returns-else-is_whole : goal.returns-else-is_whole
-returns-else-is_whole c =
-    takes_part c.args.job c.args.prefix.now c.begins-is_whole.result c.begins-is_cut.result c.begins-is_whole.ensures.exact c.begins-is_cut.ensures.exact c.if-is_whole-is_cut.false c.if-is_whole.false
+pub returns-else-begins-2 : goal.returns-else-begins-2
+returns-else-begins-2 c = takes_neither c.args.job c.args.prefix.now c.begins.result c.begins.ensures.exact c.begins-2.result c.begins-2.ensures.exact c.if-begins-2.false
