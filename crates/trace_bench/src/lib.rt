@@ -6,12 +6,12 @@ pub mod comparing;
 pub mod forging;
 pub mod judging;
 pub mod known;
-pub mod nodes;
 pub mod printed;
 pub mod rates;
 pub mod stopping;
 mod telling;
 mod ticking;
+pub mod traced;
 
 pub use auditor::Auditor;
 pub use forging::{index, is_forged};
