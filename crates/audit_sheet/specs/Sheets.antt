@@ -20,7 +20,10 @@ own_bytes own = flat_map own_byte own
 
 -- a byte of an input: each of the five that could be markup as its entity
 abbrev pub escaped : ℕ → List ℕ
-escaped byte = if byte == 60 then own_bytes (codes "&lt;") else (if byte == 62 then own_bytes (codes "&gt;") else (if byte == 38 then own_bytes (codes "&amp;") else (if byte == 34 then own_bytes (codes "&quot;") else (if byte == 39 then own_bytes (codes "&#39;") else own_byte byte))))
+escaped byte = if byte == 60 then own_bytes (codes "&lt;")
+    else (if byte == 62 then own_bytes (codes "&gt;")
+    else (if byte == 38 then own_bytes (codes "&amp;")
+    else (if byte == 34 then own_bytes (codes "&quot;") else (if byte == 39 then own_bytes (codes "&#39;") else own_byte byte))))
 
 -- how many characters are left at either end of a text that is cut
 abbrev pub half : ℕ → ℕ
@@ -28,7 +31,8 @@ half most = (most - 2) / 2
 
 -- a text of an input that is shown: cut in the middle, if it has more than so many characters
 abbrev pub put_cut : List ℕ → ℕ → List ℕ
-put_cut text most = if nat_le (length text) most then flat_map escaped text else (flat_map escaped (take (half most) text) ++ own_bytes (codes "..") ++ flat_map escaped (drop (length text - half most) text))
+put_cut text most = if nat_le (length text) most then flat_map escaped text
+    else (flat_map escaped (take (half most) text) ++ own_bytes (codes "..") ++ flat_map escaped (drop (length text - half most) text))
 
 -- WHAT A TEXT OF AN INPUT ADDS: its bytes as they are shown, cut, and with entities
 abbrev pub shown_of : List ℕ → ℕ → List ℕ

@@ -1,17 +1,15 @@
 //! Whether the storage of a node shows what the reports describe.
 #![tactic(auto)]
 
-mod centre;
 mod device;
 mod due;
-mod host;
+mod rows;
 mod shows;
 mod verifier_cells;
 
-pub use centre::{centre_cell, centre_due, centre_shows};
 pub use device::{device_cell, device_due, device_shows};
 pub use due::{Due, Found, found_in};
-pub use host::{host_cell, host_due, host_shows};
 pub use node_images::CellShows;
+pub use rows::{centre_cell, centre_due, centre_shows, host_cell, host_due, host_shows};
 pub use shows::{MOST_CELL, Shows};
 pub use verifier_cells::{verifier_cell, verifier_due, verifier_shows};
