@@ -49,9 +49,11 @@ pub fn audits_are_exact()
 }
 
 /// The verdict is one. Two verdicts over the same script, report and rates, by auditors that had the same before the run, are equal: in the line, in how
-/// the script had ended, and in the answer that was due. Neither may be cut short: memory ran out, a source could not be read, or the auditor keeps
-/// nothing by which it could recognize forged bytes. And it assumes that the auditors see a history as the run begins, by a tariff of texts. New
-/// auditors see the empty one, and each run that is lawful or stopped leaves them one.
+/// the script had ended, and in the answer that was due.
+///
+/// It assumes that neither was cut short: memory ran out, a source could not be read, or the auditor keeps nothing to recognize forged bytes. And it
+/// assumes a history that the auditors see as the run begins, by a tariff of texts. New auditors see the empty one, and each run that is lawful or
+/// stopped leaves them one.
 pub fn one_verdict()
     ensures { (v w : Verdict) (script report rates : List ℕ) (old new other : Audit) → AreEqual v w script report rates old new other }
 {

@@ -24,11 +24,12 @@ fn imprint_in(imprints: &[Imprint], place: usize) -> Imprint
     imprints[place]
 }
 
-/// Whether the prints are those of the imprints of all runs, in order. Where the printer did not take the whole line of a mark, some of its digits may be
-/// printed, none or all, and a line end after them, with which somebody ended the line by hand.
+/// Whether the prints are those of the imprints of all runs, in order. If the printer did not take the whole line of a mark, some of its digits may be
+/// there, none or all. A line end may follow them: somebody ended the line by hand.
 ///
-/// It goes through the imprints once, with all places of the prints that can be reached so far. A whole line leaves one of them, or none. AllocError is
-/// lack of memory for these, which is 16 bytes, and as much again for each further way in which the prints can be read.
+/// It goes through the imprints once, with the places of the prints that can be reached so far. Places that follow each other are kept as one, in 16
+/// bytes. There is mostly one such record, also after several lines that were not taken whole. There are more only if a whole line is at two places
+/// that can be reached. AllocError is returned if there is no memory for them.
 pub fn match_prints(alloc: Global, imprints: &[Imprint], prints: &[u8]) -> Result<Match, AllocError>
     ensures { IfOk result (Matches imprints.now prints.now) }
 {
