@@ -25,9 +25,10 @@ impl<N: Nv> Departments<N> {
     /// The departments in their storage and in memory for 1,040 cells, or why they do not start, with both. Power is not lost. Nothing
     /// is written, and no memory is taken. Blank storage has no quota and no job.
     ///
-    /// `Damaged` is returned if and only if one of these is so. The storage has not 35,360 bytes. A cell has an open slot of count 0
-    /// or two open slots of equal counts. A payload is no quota or job of its cell. A job lies after a blank cell of its department
-    /// or is in two cells. The jobs of a department are above its quota, or it has jobs and no quota.
+    /// Storage is damaged if one of these is so. It has not 35,360 bytes. A cell has an open slot of count 0 or two open slots of equal
+    /// counts. A payload is no quota or job of its cell. A job lies after a blank cell of its department or is in two cells. The jobs
+    /// of a department are above its quota, or it has jobs and no quota. `Damaged` is returned only for damaged storage, and of
+    /// damaged storage nothing starts: it gives `Damaged`, unless a read fails or power is lost before.
     pub fn boot(nv: N, room: Room<12>) -> Result<Departments<N>, (N, Room<12>, BootFail)>
         requires powered { (N.meters nv).lost ≡ false }
         requires cells { cells_of room ≡ CELLS }

@@ -15,7 +15,8 @@ ghost use Rattle.ledger_laws.specs.Nexts.{AreOrdered, IsNext, IsOpen};
 ghost use Rattle.ledger_laws.specs.Laws.{ForHistories, Holds};
 
 /// What holds of every history, for every reading of rates and all versions of the rules, if each version allows what the one
-/// before it does. A history may have commits that a cut left open. The rules in use are such versions (`today`).
+/// before it does. A history may have commits that a cut left open. The rules in use are such versions (`today`), and a history
+/// under the first version alone is one under all (`earlier`).
 ///
 /// - `lawful`. The history is lawful.
 /// - `owners`. A ruled request that is no enrolment has the customer under which its device is enrolled.

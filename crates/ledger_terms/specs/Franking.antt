@@ -36,13 +36,6 @@ kept d [] = None
 kept d (Debited e piece postage class day version ∷ C) = if e == d then Some (mark_after d piece postage class day version C) else kept d C
 kept d (_ ∷ C) = kept d C
 
--- the spelling of the kept mark
-abbrev pub kept_indicium : ℕ → List Commit → Option (List ℕ)
-kept_indicium d [] = None
-kept_indicium d (Debited e piece postage class day version ∷ C) = if e == d then Some (indicium_after d piece postage class day version C)
-    else kept_indicium d C
-kept_indicium d (_ ∷ C) = kept_indicium d C
-
 -- the spelling of the mark of the first Debited of this piece
 abbrev pub marked : ℕ → ℕ → List Commit → Option (List ℕ)
 marked d p [] = None

@@ -1,9 +1,13 @@
 -- A cell that is clear, slot by slot.
-use Rattle.std.proofs.Common.{◌≡◌, ◌≢◌, inl, inr, ℕ, ◌+◌, ◌<◌, ◌≤◌, Option, Some, None, sym, ◌∙◌, ap, refl, arith}
+use Rattle.std.proofs.Common.{◌≡◌, ◌≢◌, inl, inr, Bool, true, false, not, ℕ, ◌+◌, ◌<◌, ◌≤◌, Option, Some, None, sym, ◌∙◌, ap, refl, arith}
 use Rattle.std.proofs.lemmas.Bool.{cases_eq}
 use Rattle.nv_store.specs.Slot.{Held, IsClear}
 use Rattle.nv_store.specs.Scans.{open_count}
 use Rattle.nv_bytes.specs.Newest.{IsRepeated}
+
+pub not_true : (b : Bool) → not b ≡ true → b ≡ false
+not_true true is = cc is
+not_true false is = refl
 
 -- a slot with a count is opened
 pub open_with : (o : Option Held) (c : ℕ) → open_count o ≡ Some c → (a : Held) × (o ≡ Some a) × (a.0 ≡ c)
@@ -24,9 +28,6 @@ clear_fewer m n slots le clear = record {
   counted = λ i a lt is. clear.counted i a (omega (arith, lt, le)) is;
   distinct = λ i j a b lt lt' is is' same. clear.distinct i j a b (omega (arith, lt, le)) (omega (arith, lt', le)) is is' same;
 }
-
-pub clear_none : (slots : ℕ → Option Held) → IsClear 0 slots
-clear_none slots = record { counted = λ i a lt is. absurd (omega (arith, lt)); distinct = λ i j a b lt lt' is is' same. absurd (omega (arith, lt)) }
 
 -- with one slot more
 pub clear_more : (p : ℕ) (slots : ℕ → Option Held) → ((a : Held) → slots p ≡ Some a → (0 < a.0) × (IsRepeated p slots a.0 → ⊥)) → IsClear p slots → IsClear (p + 1) slots
@@ -50,12 +51,6 @@ clear_more p slots fresh clear = record {
     some : ℕ → Option ℕ
     some n = Some n
 
-pub clear_shut : (p : ℕ) (slots : ℕ → Option Held) → open_count (slots p) ≡ None → IsClear p slots → IsClear (p + 1) slots
-clear_shut p slots shut clear = clear_more p slots (λ a is. absurd (differs a (sym (ap open_count is) ∙ shut))) clear
-  where
-    differs : (a : Held) → ◌≡◌ {A = Option ℕ} (Some a.0) None → ⊥
-    differs a e = cc e
-
 pub clear_open : (p c : ℕ) (slots : ℕ → Option Held) → open_count (slots p) ≡ Some c → c ≢ 0 → (IsRepeated p slots c → ⊥) → IsClear p slots → IsClear (p + 1) slots
 clear_open p c slots opened some fresh clear = clear_more p slots each clear
   where
@@ -71,10 +66,3 @@ pub not_zero : (p : ℕ) (slots : ℕ → Option Held) → open_count (slots p) 
 not_zero p slots opened clear =
     let held = open_with (slots p) 0 opened in
     omega (arith, clear.counted p held.0 (omega arith) held.1, held.2)
-
-pub not_twice : (p c : ℕ) (slots : ℕ → Option Held) → open_count (slots p) ≡ Some c → IsRepeated p slots c → IsClear (p + 1) slots → ⊥
-not_twice p c slots opened repeated clear =
-    let here = open_with (slots p) c opened in
-    let there = open_with (slots repeated.0) c repeated.2 in
-    let same = clear.distinct repeated.0 p there.0 here.0 (omega (arith, repeated.1)) (omega arith) there.1 here.1 (there.2 ∙ sym here.2) in
-    omega (arith, repeated.1, same)

@@ -4,28 +4,9 @@ use Rattle.std.proofs.lemmas.List.{ext_get_or}
 use Rattle.bench_base.specs.declared.sizes.TheConstants.{BLOCK_PIECES}
 use Rattle.bench_base.specs.Ranges.{IsDevice}
 use Rattle.node_acts.specs.RowLaws.{listed_long}
-use Rattle.centre_ledger.specs.declared.rows.Enrolment.{Enrolment}
-use Rattle.centre_ledger.specs.declared.rows.Enrolment.TheVariants.{Registered, Enrolled, Withdrawn}
-use Rattle.centre_ledger.specs.Rows.{customer_number}
-use Rattle.centre_ledger.specs.Payload.{state_number}
 use Rattle.verifier.specs.Rows.{Row, TrustRow, BlockRow}
 use Rattle.verifier.specs.Payload.{RowReadsAs, IsPayloadOf, scans_of, word_at}
-use Rattle.verifier.specs.Seen.{scan_shown}
 use Rattle.verifier.proofs.Laid.{payload_laws}
-
-pub one_enrolment : (a b : Enrolment) → state_number a ≡ state_number b → customer_number a ≡ customer_number b → a ≡ b
-one_enrolment Registered Registered state number = refl
-one_enrolment Registered (Enrolled w) state number = cc state
-one_enrolment Registered (Withdrawn w) state number = cc state
-one_enrolment (Enrolled v) Registered state number = cc state
-one_enrolment (Enrolled v) (Enrolled w) state number = ap (λ (n : ℕ). Enrolled n) number
-one_enrolment (Enrolled v) (Withdrawn w) state number = cc state
-one_enrolment (Withdrawn v) Registered state number = cc state
-one_enrolment (Withdrawn v) (Enrolled w) state number = cc state
-one_enrolment (Withdrawn v) (Withdrawn w) state number = ap (λ (n : ℕ). Withdrawn n) number
-
-pub scan_same : (m n : ℕ) → scan_shown m ≡ scan_shown n → m ≡ n
-scan_same m n is = grind (arith, is)
 
 pub scans_same : (payload scans : List ℕ) → length scans ≡ BLOCK_PIECES → ((j : ℕ) → j < BLOCK_PIECES → get_or (scans_of payload) j 0 ≡ get_or scans j 0)
     → scans_of payload ≡ scans

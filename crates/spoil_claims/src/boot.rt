@@ -24,9 +24,10 @@ impl<N: Nv> Desk<N> {
     /// The desk in its storage and in memory for 1,024 cells, or why it does not start, with both. Power is not lost. Nothing is
     /// written, and no memory is taken. Blank storage has no claims.
     ///
-    /// `Damaged` is returned if and only if one of these holds. The storage has not 159,744 bytes. A cell has an open slot of
-    /// count 0 or two open slots of equal counts. A payload is not that of a claim with the number of its cell, a customer from 1
-    /// to 64, a state and a mark. A claim follows a blank cell.
+    /// Storage is damaged if one of these is so. It has not 159,744 bytes. A cell has an open slot of count 0 or two open slots of
+    /// equal counts. A payload is not that of a claim with the number of its cell, a customer from 1 to 64, a state and a mark. A
+    /// claim follows a blank cell. `Damaged` is returned only for damaged storage, and of damaged storage nothing starts: it gives
+    /// `Damaged`, unless a read fails or power is lost before.
     pub fn boot(nv: N, room: Room<73>) -> Result<Desk<N>, (N, Room<73>, BootFail)>
         requires powered { (N.meters nv).lost ≡ false }
         requires cells { cells_of room ≡ CLAIM_CELLS }

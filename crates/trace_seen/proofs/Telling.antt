@@ -52,9 +52,6 @@ pub same_at : (S : Type 0) (o : Option Seen) → (S → ⊥) → TicksAt S o o
 same_at S None none = refl
 same_at S (Some x) none = (x, refl, refl, (λ yes. inl yes, λ e. elim e [ inl before ↦ before | inr now ↦ absurd (none now) ]))
 
-pub ticks_none : (S : List ℕ → Type 0) (s : SeenMarks) → ((mark : List ℕ) → S mark → ⊥) → Ticks S s s
-ticks_none S s none = record { asked_same = refl; each = λ q. same_at (S q) (seen_as s q) (none q) }
-
 unseen_at : (S : Type 0) (o : Option Seen) → o ≡ None → TicksAt S o o
 unseen_at S None none = refl
 unseen_at S (Some x) none = absurd (cc)

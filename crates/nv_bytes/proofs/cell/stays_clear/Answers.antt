@@ -1,7 +1,6 @@
 use Rattle.std.proofs.Common.{sym, ◌∙◌}
 use Rattle.nv_store.specs.Slot.{slots_at}
-use Rattle.nv_bytes.proofs.Clear.{clear_open}
-use Rattle.nv_bytes.proofs.Found.{not_true}
+use Rattle.nv_bytes.proofs.Clear.{not_true, clear_open}
 use Rattle.nv_bytes.proofs.cell.stays_clear.Goals as goal
 
 pub returns-clause-yes : goal.returns-clause-yes
