@@ -37,8 +37,8 @@ leaves_by b sound (call.Flag c) ranged = commit_says _ _ _ (acts.flag_act c.cust
 leaves_by b sound (call.Balance c) ranged = commit_says _ _ _ (acts.balance_act c.customer b) (sound.balanced c.customer)
 leaves_by b sound (call.Take c) ranged = commit_says _ _ _ (acts.take_act c.bytes b) (sound.taken c.bytes ranged)
 
-pub fits_by : {F A : Type 0} (s : Seen) (act : Act Row F A) → LeavesSound (books_in s) act → FitsAct (λ t x. IsFit t x) s act
-fits_by s act leaves = of_commit _ _ act leaves (λ c x left. left.0)
+pub fits_by : {F A : Type 0} (s : Seen) (act : Act Row F A) → LeavesSound (books_in s) act → PlacesAct act → FitsAct (λ t x. IsFit t x) s act
+fits_by s act leaves has = of_commit _ _ act (of_both _ _ act leaves has) (λ c x both. record { has = both.1; sound = both.0.0 })
 
 pub own_by : {F A : Type 0} (b : Books) (act : Act Row F A) → LeavesSound b act → IsOfNode Centre act
 own_by b act leaves = of_commit _ _ act leaves (λ c x left. left.1)

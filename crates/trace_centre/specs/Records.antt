@@ -1,27 +1,31 @@
 -- The record of the centre, as the bench sees the centre.
-use Rattle.std.specs.Prelude.{◌≡◌, ℕ, ◌≤◌, length}
+use Rattle.std.specs.Prelude.{◌≡◌, ℕ, ◌≤◌, length, IfSome}
 use Rattle.bench_base.specs.declared.sizes.TheConstants.{MOST_COMMITS, CENTRE_CELLS}
 use Rattle.bench_base.specs.Ranges.{IsDevice, IsCustomer, IsWord}
 use Rattle.bench_base.specs.Table.{IsBytes}
 use Rattle.node_acts.specs.declared.asked.Asked.{Asked}
-use Rattle.node_acts.specs.RowList.{RowList, row_at, commits_at, commits_in}
+use Rattle.node_acts.specs.RowList.{RowList, row_at, row_of, commits_at, commits_in}
 use Rattle.node_acts.specs.Kinds.{OfCall}
 use Rattle.centre_ledger.specs.declared.rows.Row.{Row}
 use Rattle.centre_ledger.specs.Books.{Books, AreSound, put_row}
 use Rattle.centre_ledger.specs.Seen.{Seen, books_in}
+use Rattle.centre_protocol.specs.Cells.{HasCell}
+use Rattle.centre_protocol.specs.Payloads.{IsIn}
 use Rattle.bench_abstraction.specs.declared.calls.CentreCall.{CentreCall}
 use Rattle.bench_abstraction.specs.declared.calls.CentreCall.TheVariants as call
 
--- the books are those of the cells, which are counted
+-- the books are those of the cells, which are counted; each row lies in its own cell
 pub record AreKept (cells : RowList Row) (books : Books) (total : ℕ) : Type 0 where
   pub long : length cells ≡ CENTRE_CELLS
   pub books_are : books ≡ books_in cells
   pub total_is : total ≡ commits_in cells
   pub few : (k : ℕ) → commits_at (row_at cells k) ≤ MOST_COMMITS
+  pub placed : (k : ℕ) → IfSome (row_of (row_at cells k)) (IsIn k)
 
--- the rows are sound with this one in its place
-abbrev pub IsFit : Seen → Row → Type 0
-IsFit s x = AreSound (put_row (books_in s) x)
+-- the row has a cell, and the rows are sound with it in its place
+pub record IsFit (s : Seen) (x : Row) : Type 0 where
+  pub has : HasCell x
+  pub sound : AreSound (put_row (books_in s) x)
 
 -- the numbers of a call, as an event contains them
 abbrev pub IsRanged : CentreCall → Type 0

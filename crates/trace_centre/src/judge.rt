@@ -1,6 +1,7 @@
 //! Whether a line of the report can be the reply to an event of the centre.
 ghost use Rattle.std.specs.Prelude.{IfSome};
 ghost use Rattle.centre_ledger.specs.Seen.{IsKnown};
+ghost use Rattle.centre_protocol.specs.Sound.{IsSound};
 ghost use Rattle.trace_centre.specs.Records.{IsRangedAsked};
 ghost use Rattle.trace_centre.specs.Cells.{cells_of, view_of, IsSettled};
 ghost use Rattle.trace_centre.specs.Verdicts.{IsByView, IsByLedger, commit_in};
@@ -17,12 +18,19 @@ use centre_ledger::{BooksOf, Row, acts_follow_the_commits};
 use node_acts::Asked;
 use trace_nodes::{Traced, judge_call, judge_cut, judge_off, judge_on};
 
-/// A record is one that storage can show.
+/// The rows of a record are ones that storage can show.
 pub fn is_known(kept: &CentreRecord)
     ensures { IsKnown (cells_of kept.now) }
 {
     // What is lent says that the rows are sound.
     let _books = kept.books();
+}
+
+/// The rows of a record are ones that storage can show, and each lies in its own cell.
+pub fn is_sound(kept: &CentreRecord)
+    ensures { IsSound (cells_of kept.now) }
+{
+    is_known(kept);
 }
 
 // Judges by what is seen of the centre. Its record is one that storage can show, before and after a commit.

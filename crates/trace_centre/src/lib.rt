@@ -6,5 +6,5 @@ mod judge;
 mod record;
 
 pub use acts::centre_act;
-pub use judge::{is_known, judge_centre};
+pub use judge::{is_known, is_sound, judge_centre};
 pub use record::{CentreRecord, cell_of};

@@ -5,6 +5,7 @@ ghost use Rattle.centre_ledger.specs.Seen as centre;
 ghost use Rattle.centre_protocol.specs.Cells.{HasCell};
 ghost use Rattle.bench_abstraction.specs.Centre.{seen_in};
 ghost use Rattle.trace_centre.specs.Records.{AreKept, IsFit};
+ghost use Rattle.trace_centre.specs.Unique.{kept_prop};
 
 use bench_base::sizes::MOST_COMMITS;
 use centre_ledger::{Accounts, BooksOf, Row};
@@ -20,7 +21,7 @@ pub struct CentreRecord {
     pub(crate) cells: [Option<(u32, Row)>; CELLS],
     pub(crate) accounts: Accounts,
     pub(crate) total: u64,
-    ghost kept: { AreKept cells accounts total },
+    ghost kept: { AreKept cells accounts total } by { kept_prop cells accounts total },
 }
 
 /// The cell of a row: device d in cell d - 1, and customer w in cell w + 7.

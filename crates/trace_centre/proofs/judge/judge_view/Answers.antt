@@ -20,7 +20,7 @@ pub judge_call-requires-clause-fits : goal.judge_call-requires-clause-fits
 judge_call-requires-clause-fits c =
     let s = c.args.traced.now.record.cells in
     let leaves = leaves_by (books_in s) (c.acts_follow_the_commits.ensures.sound (books_in s) c.is_known.ensures.sound) c.in-Call.call (subst IsRangedAsked c.in-Call.is c.requires.ranged) in
-    subst (FitsAct (λ t x. IsFit t x) s) (sym c.centre_act-act.ensures) (fits_by s (centre_act c.in-Call.call (books_in s)) leaves)
+    subst (FitsAct (λ t x. IsFit t x) s) (sym c.centre_act-act.ensures) (fits_by s (centre_act c.in-Call.call (books_in s)) leaves (subst PlacesAct c.centre_act-act.ensures c.places_act.ensures))
 
 pub judge_call-requires-clause-own : goal.judge_call-requires-clause-own
 judge_call-requires-clause-own c =

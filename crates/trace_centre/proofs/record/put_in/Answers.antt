@@ -18,4 +18,4 @@ returns-clause-kept c =
     put_is s c.cell_of-cell.result c.index-cells-cell.result c.count_of-count.result x c.cell_of-cell.ensures.value (omega (arith, c.cell_of-cell.ensures.inside, c.requires.kept.long)) c.count_of-count.ensures in
     subst (λ (t : RowList Row). AreKept t c.put.new.self (c.args.total.now + 1)) (sym same)
     (subst (λ (b : Books). AreKept (put s (cell_of x) x) b (c.args.total.now + 1)) (sym c.put.ensures)
-    (kept_put s c.args.accounts.now c.args.total.now c.requires.kept x c.cell_of-cell.ensures.has c.requires.room))
+    (kept_put s c.args.accounts.now c.args.total.now c.requires.kept x c.requires.fits c.requires.room))
