@@ -4,6 +4,7 @@
 mod acts;
 mod judge;
 mod record;
+mod rows;
 
 pub use acts::centre_act;
 pub use judge::{is_known, is_sound, judge_centre};

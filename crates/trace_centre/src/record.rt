@@ -1,19 +1,20 @@
 //! The record of the centre, with the count of each of its cells.
-ghost use Rattle.std.specs.Prelude.{◌≡◌, ◌<◌, [], false};
-ghost use Rattle.node_acts.specs.RowList.{commits_at, is_worn, put};
+ghost use Rattle.std.specs.Prelude.{◌≡◌, ◌<◌, ℕ, [], false, IfSome, IfNone};
+ghost use Rattle.node_acts.specs.RowList.{row_at, row_of, commits_at, is_worn, put};
 ghost use Rattle.centre_ledger.specs.Seen as centre;
 ghost use Rattle.centre_protocol.specs.Cells.{HasCell};
 ghost use Rattle.bench_abstraction.specs.Centre.{seen_in};
-ghost use Rattle.trace_centre.specs.Records.{AreKept, IsFit};
+ghost use Rattle.trace_centre.specs.Records.{AreKept, IsFit, IsRowOf};
 ghost use Rattle.trace_centre.specs.Unique.{kept_prop};
 
+use crate::rows::{commits_in, customers_in, devices_in};
 use bench_base::sizes::MOST_COMMITS;
 use centre_ledger::{Accounts, BooksOf, Row};
 use node_acts::Holds;
 use trace_nodes::Record;
 
 /// How many cells the centre has.
-const CELLS: usize = 72;
+pub(crate) const CELLS: usize = 72;
 
 /// The rows of the centre in their cells, with the commits of each; and the rows as they are read, beside them.
 #[derive(Drop)]
@@ -36,7 +37,7 @@ pub fn cell_of(row: &Row) -> usize
     }
 }
 
-fn count_of(cell: &Option<(u32, Row)>) -> u32
+pub(crate) fn count_of(cell: &Option<(u32, Row)>) -> u32
     ensures { result ≡ commits_at cell.now }
 {
     match cell {
@@ -76,6 +77,24 @@ impl CentreRecord {
             cells: [None; CELLS],
             accounts: Accounts::empty(),
             total: 0,
+        }
+    }
+
+    /// The record of these cells: None of a blank one, otherwise its commits and its row, which is sound and lies in its own cell. None if and
+    /// only if the rows do not agree: the customer of a device is not open, or a customer has less than 0.
+    pub fn of(cells: [Option<(u32, Row)>; CELLS]) -> Option<CentreRecord>
+        requires rows { (k : ℕ) → IfSome (row_of (row_at cells k)) (IsRowOf k) }
+        ensures some { IfSome result (λ r. (cells_of r ≡ cells) × centre.IsKnown cells) }
+        ensures none { IfNone result (centre.IsKnown cells → ⊥) }
+    {
+        let total = commits_in(&cells);
+        match Accounts::of(devices_in(&cells), customers_in(&cells)) {
+            Some(accounts) => Some(CentreRecord {
+                cells,
+                accounts,
+                total,
+            }),
+            None => None,
         }
     }
 

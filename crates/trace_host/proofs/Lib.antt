@@ -2,5 +2,6 @@ mod Blank
 mod ByLedger
 mod Fitting
 mod Joined
+mod OfCells
 mod Printing
 mod Switched

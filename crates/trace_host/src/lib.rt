@@ -3,6 +3,7 @@
 
 mod acts;
 mod judge;
+mod of_cells;
 mod printed;
 mod record;
 

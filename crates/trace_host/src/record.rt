@@ -32,7 +32,7 @@ pub(crate) fn cell_of(row: &JobRow) -> usize
     row.job.saturating_sub(1) as usize % 1024
 }
 
-fn count_of(cell: &Option<(u32, JobRow)>) -> u32
+pub(crate) fn count_of(cell: &Option<(u32, JobRow)>) -> u32
     ensures { result ≡ commits_at cell.now }
 {
     match cell {

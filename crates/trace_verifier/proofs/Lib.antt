@@ -1,4 +1,6 @@
 mod Blank
 mod ByLedger
+mod Counted
 mod Fitting
 mod Kept
+mod Listed

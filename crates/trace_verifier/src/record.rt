@@ -94,6 +94,21 @@ fn count_at(cells: &[Option<(u32, Held)>], cell: usize) -> u32
     }
 }
 
+// The key under which marks of the device are trusted.
+pub(crate) fn key_at(cells: &[Option<(u32, Held)>], device: u32) -> Option<&ReadyKey>
+    ensures { option_copied result ≡ seen.key_at (seen_by cells.now) device }
+{
+    if device == 0 {
+        return None;
+    }
+    let cell = device as usize - 1;
+    if cell < cells.len() {
+        key_of(&cells[cell])
+    } else {
+        None
+    }
+}
+
 // The cells of a verifier without a row.
 fn no_cells(alloc: Global) -> Result<Vec<Option<(u32, Held)>>, AllocError>
     ensures { IfOk result (λ cells. seen_by cells.items ≡ seen_after []) }
@@ -131,15 +146,7 @@ impl ScanRecord {
     pub fn key(&self, device: u32) -> Option<&ReadyKey>
         ensures { option_copied result ≡ seen.key_at (cells_of self.now) device }
     {
-        if device == 0 {
-            return None;
-        }
-        let cell = device as usize - 1;
-        if cell < self.cells.len() {
-            key_of(&self.cells[cell])
-        } else {
-            None
-        }
+        key_at(self.cells.as_slice(), device)
     }
 
     // The place at which a piece of a device is looked up.

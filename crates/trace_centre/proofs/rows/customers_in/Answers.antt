@@ -1,0 +1,10 @@
+use Rattle.std.proofs.Common.{◌+◌, None, sym, arith}
+use Rattle.node_acts.specs.RowList.{row_at}
+use Rattle.node_acts.specs.RowLaws.{listed_is}
+use Rattle.centre_ledger.specs.Seen.{customer_in}
+use Rattle.trace_centre.proofs.rows.customers_in.Goals as goal
+
+pub returns : goal.returns
+returns c =
+    sym (listed_is 64 (λ k. customer_in (row_at c.args.cells.now (8 + k))) None c.loop-place.rows c.loop-place.invariant.long
+    (λ k lt. c.loop-place.invariant.read k (omega (arith, lt, c.loop-place-test.false))))
