@@ -1,16 +1,20 @@
 //! The verifier's cells, by the auditor's rows.
-ghost use Rattle.std.specs.Prelude.{◌≡◌, ◌+◌, ◌<◌, Some, true, false, length};
-ghost use Rattle.bench_base.specs.declared.sizes.TheConstants.{MOST_COMMITS};
+ghost use Rattle.std.specs.Prelude.{◌≡◌, ◌+◌, ◌≤◌, ◌<◌, Some, true, false, length, take, IfSome, IfOk, OnErr};
+ghost use Rattle.bench_base.specs.declared.sizes.TheConstants.{MOST_COMMITS, VERIFIER_BYTES};
 ghost use Rattle.node_acts.specs.RowList.{commits_at, row_at, row_of};
 ghost use Rattle.verifier.specs.Payload.{IsPayloadOf};
+ghost use Rattle.verifier.specs.Seen as scans;
 ghost use Rattle.trace_verifier.specs.Cells.{IsSettled, cells_of};
 ghost use Rattle.trace_verifier.specs.Helds.{row_held, seen_cell};
 ghost use Rattle.trace_verifier.specs.Records.{IsPlaced, row_by};
-ghost use Rattle.node_images.specs.Cells.{ShowsCell, CellIs};
-ghost use Rattle.trace_folder.specs.Changes.{row_at_place};
+ghost use Rattle.node_images.specs.Cells.{ShowsCell, ShowsOpen, CellIs};
+ghost use Rattle.trace_folder.specs.Changes.{at_place};
+ghost use Rattle.trace_folder.specs.Images.{VerifierImageIs};
+ghost use Rattle.trace_folder.specs.Sources.{IsUnread};
 
 use crate::due::{Due, due_by};
-use crate::shows::{MOST_CELL, Shows, fill, is_other, with_cell};
+use crate::shows::{MOST_CELL, Shows};
+use crate::walk::{Cells, image_shows};
 use bench_base::sizes::VERIFIER_CELLS;
 use bench_base::stream::{ReadFail, Source};
 use node_images::{CellShows, shows_block, shows_no_block, shows_trust};
@@ -72,7 +76,7 @@ pub fn verifier_cell(traced: &Traced<ScanRecord, Change>, place: usize, cell: &[
     requires inside { place < 1032 }
     requires long { length cell.now ≡ 4122 }
     ensures { CellIs 2056 (IsPayloadOf place) (row_at (cells_of traced.now.record) place)
-        (row_at_place place (cells_of traced.now.record) traced.now.open) cell.now result }
+        (at_place scans.cell_of (λ x. scans.row_with (cells_of traced.now.record) x) place traced.now.open) cell.now result }
 {
     let seen = &traced.record.cells()[place];
     if shows_seen(cell, place, seen) {
@@ -86,6 +90,26 @@ pub fn verifier_cell(traced: &Traced<ScanRecord, Change>, place: usize, cell: &[
     }
 }
 
+impl Cells for Traced<ScanRecord, Change> {
+    ghost COUNT = { 1032 };
+
+    const COUNT: u32 = VERIFIER_CELLS;
+
+    ghost SIZE = { 4122 };
+
+    const SIZE: usize = 4122;
+
+    ghost IsSettled = { λ t. IsSettled t };
+
+    ghost counted = { λ t place cell. ShowsCell 2056 (IsPayloadOf place) (row_at (cells_of t.record) place) cell };
+
+    ghost opened = { λ t place cell. ShowsOpen 2056 (IsPayloadOf place) (row_at (cells_of t.record) place) (at_place scans.cell_of (λ x. scans.row_with (cells_of t.record) x) place t.open) cell };
+
+    fn cell_shows(&self, place: usize, cell: &[u8]) -> CellShows {
+        verifier_cell(self, place, cell)
+    }
+}
+
 /// What the image of the verifier's storage shows, which is read cell by cell into the buffer, up to the first cell that shows neither. The bytes of that cell
 /// are then in the buffer. ReadFail if the source fails or has too few bytes.
 pub fn verifier_shows<S: Source>(
@@ -94,17 +118,11 @@ pub fn verifier_shows<S: Source>(
     buffer: &mut [u8; MOST_CELL],
 ) -> Result<Shows, ReadFail>
     requires settled { IsSettled traced.now }
+    ensures shows { IfSome (S.left image.old) (λ bytes. IfOk result (VerifierImageIs traced.now (take VERIFIER_BYTES bytes))) }
+    ensures later { S.faults image.old ≤ S.faults image.new }
+    ensures failed { OnErr result (IsUnread VERIFIER_BYTES (S.faults image.old) (S.faults image.new) (S.left image.old)) }
 {
-    let mut seen = Shows::Counted;
-    for place in 0..VERIFIER_CELLS {
-        fill(image, &mut buffer[..4122])?;
-        let cell = verifier_cell(traced, place as usize, &buffer[..4122]);
-        seen = with_cell(seen, place, cell);
-        if is_other(seen) {
-            return Ok(seen);
-        }
-    }
-    Ok(seen)
+    image_shows(traced, image, buffer)
 }
 
 /// What the cell at this place should hold.
