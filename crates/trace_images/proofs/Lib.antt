@@ -1,0 +1,4 @@
+pub mod Outcomes
+pub mod Reading
+mod HostCells
+mod VerifierCells

@@ -1,0 +1,4 @@
+-- Bookkeeping: private calls and proofs alone name these.
+pub mod Host
+pub mod Newest
+pub mod VerifierRows
