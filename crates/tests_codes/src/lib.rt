@@ -1,0 +1,5 @@
+//! Codes against public vectors
+#![tactic(auto)]
+
+#[cfg(test)]
+mod codes;
