@@ -232,7 +232,7 @@ module _ (one : (x y : Reply) → IsWholeReply x → IsWholeReply y → text_of 
         compare one line τ (Falls τ) (Begin ∷ H) rates says.pairs trace says.rest fits.rest says.told fits.told says.prefix.each fits.each fits.go_on
         (sym says.prefix.script_is ∙ fits.script_is) (sym says.prefix.report_is ∙ fits.report_is) so fits.are
 
-    no_longer : (τ : Tariff) (H : Ledger) (trace : List TraceStep) (rb : List (List ℕ)) (tb : List ℕ) → length trace ≤ 1000000 → (IsCutShort v → ⊥)
+    pub no_longer : (τ : Tariff) (H : Ledger) (trace : List TraceStep) (rb : List (List ℕ)) (tb : List ℕ) → length trace ≤ 1000000 → (IsCutShort v → ⊥)
         → Compared τ (Falls τ) (Begin ∷ H) rates says.pairs trace says.rest rb says.told tb → length trace ≤ length says.pairs
     no_longer τ H trace rb tb few other (longer [] K l size so reads goes lines texts are behind left) = omega (arith, size)
     no_longer τ H trace rb tb few other (longer (d ∷ more) K l size so reads goes lines texts are behind left) =
@@ -257,7 +257,7 @@ module _ (one : (x y : Reply) → IsWholeReply x → IsWholeReply y → text_of 
         (subst (λ (r : List (List ℕ)). EndsAt script_grammar (status_of fw.end) (length trace + 1) r) lines fw.ends))
 
     -- no pair is left over
-    as_long : (τ : Tariff) (H : Ledger) (trace : List TraceStep) (fw : FitsToEnd τ (Begin ∷ H) script report rates trace)
+    pub as_long : (τ : Tariff) (H : Ledger) (trace : List TraceStep) (fw : FitsToEnd τ (Begin ∷ H) script report rates trace)
         → Compared τ (Falls τ) (Begin ∷ H) rates says.pairs trace says.rest fw.fits.rest says.told fw.fits.told → length says.pairs ≤ length trace
     as_long τ H trace fw (longer more K l size so reads goes lines texts are behind left) = omega (arith, size)
     as_long τ H trace fw (shorter p more size is lines texts) =

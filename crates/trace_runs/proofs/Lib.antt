@@ -1,9 +1,13 @@
+mod Alike
+mod AllRuns
 mod Comparing
 mod Counting
+mod EachRun
 mod Exact
 mod Fitted
 mod GivenBack
 mod Giving
+mod Left
 mod MadePrinted
 mod Matching
 mod One

@@ -46,7 +46,7 @@ begun script report rates old new before sees = record {
   each = tt;
   script_is = refl;
   report_is = refl;
-  so = λ τ H texts history seen. record { history = begins history; sees = sees H seen; are = refl };
+  so = λ τ H texts history seen. record { history = begins history; sees = seen.alike new (sees seen.ledger seen.sees); are = refl };
   prints = sym (append-nil before);
 }
 

@@ -15,9 +15,10 @@ use Rattle.line_runs.specs.Ends.{lines_of, EndsAt}
 use Rattle.line_extensions.specs.Trace.{StepRecord, TraceStep, GoesOn, done_in, line_in, line_of}
 use Rattle.line_extensions.specs.Scripts.{script_lines, script_grammar}
 use Rattle.script_replay.specs.Trace.{ledger_by, ledger_after}
-use Rattle.trace_bench.specs.Seeing.{Audit, Sees}
+use Rattle.trace_bench.specs.Seeing.{Audit}
 use Rattle.trace_bench.specs.Stopping.{IsPrefixOf}
 use Rattle.trace_runs.specs.Audits.{MayTell, IsRun}
+use Rattle.trace_runs.specs.Between.{SeesBetween}
 use Rattle.trace_runs.specs.Prints.{ArePrinted}
 use Rattle.trace_runs.specs.Verdicts.{IsEvent, Says, Audited, status_of}
 use Rattle.trace_runs.specs.declared.{imprint.Imprint.Imprint, verdict.Ending.Ending, verdict.Ending.TheVariants.Done as Ended, verdict.Ending.TheVariants.Script, verdict.Ending.TheVariants.TooLong, verdict.Verdict.Verdict, verdict.Verdict.TheVariants.Lawful, verdict.Verdict.TheVariants.Stopped, verdict.Verdict.TheVariants.Wrong, verdict.Verdict.TheVariants.Forged, verdict.Verdict.TheVariants.Unkept, verdict.Verdict.TheVariants.More, verdict.Verdict.TheVariants.Memory, verdict.Verdict.TheVariants.Unread}
@@ -107,7 +108,7 @@ IsStoppedAt v number = (v ≡ Stopped number) ⊎ IsCutShort v
 
 -- P of each history that the auditor saw as a run begins, by a tariff of texts
 abbrev pub AtSeen : Audit → (Tariff → Ledger → Type 0) → Type 0
-AtSeen old P = (τ : Tariff) (H : Ledger) → IsOfTexts τ → History τ editions H → Sees old H → P τ (Begin ∷ H)
+AtSeen old P = (τ : Tariff) (H : Ledger) → IsOfTexts τ → History τ editions H → SeesBetween old H → P τ (Begin ∷ H)
 
 -- AN AUDIT IS EXACT. No steps that fit are more than it paired, unless it was cut short. So if it says that a line is wrong, or that its event
 -- contains forged bytes, no steps fit with that line. If any steps fit to the end, it says that the run is lawful, unless it was cut short; and if

@@ -12,6 +12,7 @@ use Rattle.line_runs.specs.Ends.{lines_of}
 use Rattle.line_runs.specs.Lines.{IsOneLine}
 use Rattle.line_extensions.specs.Events.{IsLineOf}
 use Rattle.trace_bench.specs.Seeing.{Audit, Sees}
+use Rattle.trace_runs.specs.Between.{SeesBetween}
 use Rattle.trace_runs.specs.Imprints.{imprint_at}
 use Rattle.trace_runs.specs.Reads.{IsRead, OfTexts}
 use Rattle.trace_runs.specs.Verdicts.{Pair, IsPair, line_in, text_for, TellsSo, FallsAt, IsSo, imprints_from, last_given}
@@ -49,7 +50,8 @@ pub record Progress (count : ℕ) (script0 report0 rates0 script report rates : 
   pub each : AllByRecursion IsPair pairs
   pub script_is : lines_of script0 ≡ map line_in pairs ++ lines_of script
   pub report_is : report0 ≡ flat_map text_for pairs ++ report
-  pub so : AtHistories old (λ τ H. TellsSo τ (StandsAt τ new rates) (Begin ∷ H) rates0 pairs)
+  pub so : (τ : Tariff) (H : Ledger) → IsOfTexts τ → History τ editions H → SeesBetween old H
+      → TellsSo τ (StandsAt τ new rates) (Begin ∷ H) rates0 pairs
   pub prints : after ≡ before ++ imprints_from 1 pairs
 
 -- the verdict falls there, and what is open of what was printed was added after these imprints

@@ -25,6 +25,7 @@ use Rattle.script_replay.specs.Trace.{ledger_by}
 use Rattle.trace_bench.specs.Judging.{IsUntold}
 use Rattle.trace_bench.specs.Stopping.{IsBegun, IsUnbegun}
 use Rattle.trace_bench.specs.Seeing.{Audit, Sees, keeps}
+use Rattle.trace_runs.specs.Between.{SeesBetween}
 use Rattle.trace_runs.specs.Audits.{MayTell}
 use Rattle.trace_runs.specs.Imprints.{IsGiven, IsLeftOpen, imprint_at}
 use Rattle.trace_runs.specs.Reads.{IsRead, OfTexts}
@@ -183,7 +184,7 @@ pub record Says (v : Verdict) (script report rates : List ℕ) (old new : Audit)
   pub told : List ℕ
   pub prefix : IsPrefix script report pairs rest told
   pub falls : FallsAt (length pairs + 1) rest told v
-  pub so : (τ : Tariff) (H : Ledger) → IsOfTexts τ → History τ editions H → Sees old H
+  pub so : (τ : Tariff) (H : Ledger) → IsOfTexts τ → History τ editions H → SeesBetween old H
       → TellsSo τ (λ K left. IsSo τ K left new (length pairs + 1) rest told v falls) (Begin ∷ H) rates pairs
 
 -- what the printer was given in them, where the first is the line of this number

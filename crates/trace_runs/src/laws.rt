@@ -1,6 +1,5 @@
 //! Laws of audits: each is the contract of a call that does nothing.
-ghost use Rattle.std.specs.Prelude.{◌≡◌, ℕ, List, ◌∷◌, Option, Some};
-ghost use Rattle.bench_base.specs.declared.ledger.Entry.TheVariants.{Begin};
+ghost use Rattle.std.specs.Prelude.{◌≡◌, ℕ, List, [], Option, Some};
 ghost use Rattle.bench_base.specs.Ledger.{Ledger};
 ghost use Rattle.bench_base.specs.Rules.{todays_rules, editions};
 ghost use Rattle.ledger_terms.specs.Lawful.{Lawful};
@@ -9,23 +8,23 @@ ghost use Rattle.ledger_moves.specs.Histories.{History};
 ghost use Rattle.line_extensions.specs.Trace.{StepRecord};
 ghost use Rattle.script_replay.specs.Trace.{ledger_after};
 ghost use Rattle.trace_bench.specs.Seeing.{Audit};
-ghost use Rattle.trace_runs.specs.Audits.{IsRun, AreAlike, Fits, ledger_left};
+ghost use Rattle.trace_runs.specs.Audits.{IsRun, AreAlike};
 ghost use Rattle.trace_runs.specs.Fitting.{AreEqual, AreTold, IsExact, PrintsFit};
+ghost use Rattle.trace_runs.specs.Runs.{AreAudited, AreExact, AuditedRun, FitRuns, HasJudged, Papers};
 ghost use Rattle.trace_runs.specs.Verdicts.{Audited, AuditedOf, Says};
 ghost use Rattle.trace_runs.specs.declared.{imprint.Imprint.Imprint, verdict.Verdict.Verdict};
 
 use ledger_laws::laws::histories;
 use script_text::laws::{one_line, one_reply};
 
-/// If a script and its report fit together over a history, they make a lawful ledger. Steps that are possible in turn make one too, and steps of a
-/// run make a history again.
+/// Runs that fit over a history, one after the other, leave a lawful ledger. Steps that are possible in turn leave one too, and steps of a run make a
+/// history again.
 pub fn fits_are_lawful()
     ensures history { (τ : Tariff) (H : Ledger) (left : List ℕ) (trace : List StepRecord) → History τ editions H → IsRun τ H left trace
         → History τ editions (ledger_after τ H trace) }
     ensures told { (τ : Tariff) (H : Ledger) (left : List ℕ) (trace : List StepRecord) → History τ editions H → AreTold τ H left trace
         → Lawful todays_rules (ledger_after τ H trace) }
-    ensures lawful { (τ : Tariff) (H : Ledger) (script report rates prints : List ℕ) → History τ editions H
-        → (f : Fits τ (Begin ∷ H) script report rates prints) → Lawful todays_rules (ledger_left τ (Begin ∷ H) script report rates f) }
+    ensures lawful { (τ : Tariff) (H K : Ledger) (runs : List Papers) → History τ editions H → FitRuns τ H runs K → Lawful todays_rules K }
 {
     histories();
 }
@@ -44,6 +43,21 @@ pub fn audits_are_exact()
     ensures { (v : Verdict) (script report rates : List ℕ) (old new : Audit) (says : Says v script report rates old new)
         → IsExact v script report rates old new says }
 {
+    one_reply();
+    one_line();
+}
+
+/// SEVERAL RUNS. An auditor judges them one after the other. If each verdict is lawful or stopped, some executions give these reports, each run over what
+/// the one before it left. And if some do, each verdict is lawful or stopped.
+///
+/// It assumes a history that the auditor saw before the first run, by a tariff of texts; a new auditor sees the empty one. The second half assumes that
+/// no verdict was cut short. An event that was stopped before its answer was begun counts as one whose commit is open (`StopLeaves`). What it sent or
+/// released counts as such only when it is given out again.
+pub fn runs_are_exact()
+    ensures begins { (start : Audit) → HasJudged start [] start }
+    ensures exact { (start : Audit) (audits : List AuditedRun) → AreAudited start audits → AreExact start audits }
+{
+    histories();
     one_reply();
     one_line();
 }

@@ -1,4 +1,4 @@
-//! What an audit says of a script, its report, the rates and the prints together; the audit of one run; and what follows of it.
+//! What an audit says of a script, its report, the rates and the prints together; the audit of one run, and of several; and what follows of it.
 #![tactic(auto)]
 
 mod answers;
@@ -9,6 +9,7 @@ pub mod laws;
 mod parts;
 mod places;
 pub mod prints;
+pub mod runs;
 mod stopping;
 pub mod verdict;
 
@@ -17,4 +18,5 @@ pub use ends::LINES;
 pub use imprint::{Given, Imprint, Printed};
 pub use line_runs::lines::read_line;
 pub use prints::{Match, match_prints};
+pub use runs::judge_next;
 pub use verdict::{Ending, Input, Judgment, Verdict};
