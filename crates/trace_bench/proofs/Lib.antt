@@ -15,4 +15,5 @@ mod Sent
 mod Sets
 mod Shown
 mod Shutting
+pub mod Starts
 mod Stops

@@ -5,6 +5,7 @@ pub mod Forging
 pub mod Judging
 pub mod Known
 pub mod Seeing
+pub mod Starting
 pub mod Stopping
 pub mod Telling
 -- What the functions inside say.

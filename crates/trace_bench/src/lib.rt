@@ -8,6 +8,7 @@ pub mod judging;
 pub mod known;
 pub mod printed;
 pub mod rates;
+pub mod starting;
 pub mod stopping;
 mod telling;
 mod ticking;
