@@ -1,7 +1,7 @@
 -- What the words after the program's name call for.
 use Rattle.std.specs.Prelude.{◌≡◌, ℕ, Bool, false, nat_eq, List, [], ◌∷◌, codes, string_bytes, Result, Ok, Err}
 use Rattle.std.specs.List.{Contains, starts_with}
-use Rattle.audit_words.specs.declared.{reading.Call.Call, reading.Call.TheVariants.Audit, reading.Call.TheVariants.Check, reading.Call.TheVariants.Help, reading.Call.TheVariants.Version, reading.WordsFault.WordsFault, reading.WordsFault.TheVariants.Usage, reading.WordsFault.TheVariants.Memory}
+use Rattle.audit_words.specs.declared.{reading.Call.Call, reading.Call.TheVariants.Audit, reading.Call.TheVariants.Check, reading.Call.TheVariants.Help, reading.Call.TheVariants.Version, reading.WordsFault.WordsFault, reading.WordsFault.TheVariants.Usage, reading.WordsFault.TheVariants.Start, reading.WordsFault.TheVariants.Memory}
 
 -- the word begins with two dashes
 abbrev pub is_option : List ℕ → Bool
@@ -19,6 +19,7 @@ ReadsCheck words (Ok (Audit asked)) = ⊥
 ReadsCheck words (Ok Help) = ⊥
 ReadsCheck words (Ok Version) = ⊥
 ReadsCheck words (Err Usage) = (script : List ℕ) → IsCheck words script → ⊥
+ReadsCheck words (Err Start) = ⊥
 ReadsCheck words (Err Memory) = ⊥
 
 -- the words of an audit are read: it is an audit, or they call for nothing

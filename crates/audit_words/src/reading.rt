@@ -33,6 +33,8 @@ pub struct Words {
     pub seen: Option<String>,
     /// The folder whose storages are compared with what the runs left.
     pub storages: Option<String>,
+    /// The folder whose storages the runs begin with; None if those are blank.
+    pub start: Option<String>,
     pub asked: Asked,
     /// Whether what is undecided at the end counts as decided.
     pub is_lenient: bool,
@@ -56,6 +58,8 @@ pub enum Call {
 pub enum WordsFault {
     /// They are the words of no call.
     Usage,
+    /// They ask for a start from storages, and for what is counted from blank storages.
+    Start,
     /// There is no memory.
     Memory,
 }
@@ -68,6 +72,7 @@ enum Operand {
     Prints,
     Seen,
     Storages,
+    Start,
 }
 
 /// What was read so far.
@@ -101,6 +106,7 @@ fn operand_of(word: &str) -> Option<Operand> {
         "--prints" => Some(Operand::Prints),
         "--seen" => Some(Operand::Seen),
         "--folder" => Some(Operand::Storages),
+        "--from" => Some(Operand::Start),
         _ => None,
     }
 }
@@ -112,6 +118,14 @@ fn fill(place: &mut Option<String>, word: String) -> Result<(), WordsFault> {
     }
     *place = Some(word);
     Ok(())
+}
+
+// Whether what is asked for is counted from blank storages.
+fn counts_from_blank(words: &Words) -> bool {
+    match words.asked {
+        Asked::Nothing | Asked::Table | Asked::Due => words.seen.is_some(),
+        Asked::Page | Asked::Html | Asked::Csv | Asked::Json | Asked::Ledger => true,
+    }
 }
 
 fn is_option(word: &str) -> bool
@@ -143,6 +157,7 @@ impl Reader {
             Operand::Prints => fill(&mut self.words.prints, word),
             Operand::Seen => fill(&mut self.words.seen, word),
             Operand::Storages => fill(&mut self.words.storages, word),
+            Operand::Start => fill(&mut self.words.start, word),
         }
     }
 
@@ -195,6 +210,9 @@ impl Reader {
         if self.words.names.is_empty() && self.words.folder.is_none() {
             return Err(WordsFault::Usage);
         }
+        if self.words.start.is_some() && counts_from_blank(&self.words) {
+            return Err(WordsFault::Start);
+        }
         Ok(self.words)
     }
 }
@@ -209,6 +227,7 @@ fn read_audit(alloc: Global, words: Vec<String>) -> Result<Words, WordsFault> {
             prints: None,
             seen: None,
             storages: None,
+            start: None,
             asked: Asked::Nothing,
             is_lenient: false,
             names: Vec::new(alloc),
@@ -265,8 +284,8 @@ fn read_check(words: Vec<String>) -> Result<String, WordsFault>
 
 /// What the words after the program's name call for. Options may be in any order, also after names; `--help` and `--version` take precedence over
 /// all others. WordsFault::Usage if a word that begins with `--` is no option, or if an option lacks its file or is given twice. WordsFault::Usage
-/// also if more than one thing is asked for beside the verdicts, if no run is named, or if a script to be looked at is not alone. WordsFault::Memory
-/// is lack of memory.
+/// also if more than one thing is asked for beside the verdicts, if no run is named, or if a script to be looked at is not alone. WordsFault::Start if
+/// `--from` goes with a page, a journal or marks that were seen. WordsFault::Memory is lack of memory.
 pub fn read_call(alloc: Global, words: Vec<String>) -> Result<Call, WordsFault>
     ensures { Reads (map string_bytes words.items) result }
 {

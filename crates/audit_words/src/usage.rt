@@ -8,7 +8,8 @@ pub const HELP: &str = "usage: meter_audit [OPTION ..] [--runs DIR] NAME ..
        meter_audit --check SCRIPT
 
 Says of each run, in order, whether its report may be that of a lawful meter, up to the first finding. A run is NAME.script,
-NAME.report and NAME.rates, which is empty if it is missing. Give all runs of a folder, from the first one on.
+NAME.report and NAME.rates, which is empty if it is missing. Give all runs of a folder, from the first one on; with
+--from, all that came after those storages.
 --check says what is wrong with the lines of a script.
 
 options, in any order
@@ -17,6 +18,7 @@ options, in any order
   --prints FILE    whether FILE, such as prints.txt, has the prints of these runs
   --seen FILE      whether these runs debited each mark of FILE, a line of 128 hexadecimal digits each
   --folder DIR     whether the storages of DIR show what these runs left
+  --from DIR       begin with the storages of DIR, in place of blank ones
   --lenient        status 0 in place of 4
   --help           these lines
   --version        the version
