@@ -118,17 +118,17 @@ fn tell_print(
 }
 
 impl Recount {
-    /// A clerk that went over no run, and a journal of this form. What is sent and released is kept, or not, which what is counted does not
-    /// need; and so is what the page of an audit shows besides. AllocError is lack of memory.
+    /// A clerk that went over no run, with this auditor, and a journal of this form. What the page of an audit shows besides is kept, or not.
+    /// AllocError is lack of memory.
     pub fn new(
         alloc: Global,
+        auditor: Auditor,
         form: Form,
-        is_kept: bool,
         has_facts: bool,
     ) -> Result<Recount, AllocError>
+        requires ready { IsReady (audit_of auditor) }
         ensures ready { IfOk result (λ c. IsReady (audit_of c.auditor)) }
     {
-        let auditor = Auditor::new(alloc, is_kept)?;
         let book = Book::new(alloc, form, has_facts)?;
         Ok(Recount { auditor, book })
     }

@@ -1,9 +1,42 @@
-//! The digest of runs: each covers the one before it, so who kept one sees whether the runs before were changed.
+//! Digests. That of runs covers the one before it, so who kept one sees whether the runs before were changed. That of a folder covers its storages.
 use audit_recount::Run;
 use sha2::{Digest, Sha256};
+use std::alloc::{AllocError, Global};
+use std::cell::RefCell;
+use std::io::{self, Read};
 
-/// A digest of runs.
+/// A digest of runs, or of storages.
 pub type Sum = [u8; 32];
+
+/// A reader whose bytes are hashed as they are read.
+#[derive(Drop)]
+pub struct Hashed<'a, R: Read> {
+    pub inner: R,
+    pub hasher: &'a RefCell<Sha256>,
+}
+
+impl<'a, R: Read> Read for Hashed<'a, R> {
+    ghost remaining = { λ s. R.remaining s.inner };
+
+    fn read(&mut self, buf: &mut [u8]) -> io::Result<usize> {
+        let Ok(mut hasher) = self.hasher.try_borrow_mut() else {
+            return Err(io::Error::from(io::ErrorKind::Other));
+        };
+        let count = self.inner.read(buf)?;
+        hasher.update(&buf[..count]);
+        Ok(count)
+    }
+}
+
+/// The digest in hexadecimal digits.
+pub fn sum_text(alloc: Global, sum: &Sum) -> Result<String, AllocError> {
+    let mut text = String::new(alloc);
+    for byte in sum.iter() {
+        let two = format!(in alloc; "{:02x}", *byte)?;
+        text.push_str(two.as_str())?;
+    }
+    Ok(text)
+}
 
 /// Before the first run.
 pub const NO_RUNS: Sum = [0; 32];

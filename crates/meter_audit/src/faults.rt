@@ -7,6 +7,8 @@ use thiserror::Error;
 pub enum Fault {
     #[error("usage: meter_audit [OPTION ..] [--runs DIR] NAME ..\n       meter_audit --check SCRIPT")]
     Words,
+    #[error("--from goes with no --page, --html, --csv, --json, --ledger and --seen: these count from blank storages")]
+    Start,
     #[error("cannot use {0}")]
     File(String),
     #[error("cannot use {0}: it is no regular file")]
@@ -19,6 +21,8 @@ pub enum Fault {
     InUse(String),
     #[error("cannot use {0}: it changed while it was read")]
     Changed(String),
+    #[error("cannot judge {0}: its event has bytes, and what was sent before the storages of --from is not known")]
+    Unknown(String),
     #[error("{0} was not stopped, so no answer is due")]
     Unstopped(String),
     #[error("cannot write standard output")]
@@ -33,12 +37,14 @@ pub enum Fault {
 pub fn code_of(fault: &Fault) -> u8 {
     match fault {
         Fault::Words
+        | Fault::Start
         | Fault::File(_)
         | Fault::Pipe(_)
         | Fault::Rates(_)
         | Fault::Folder(_)
         | Fault::InUse(_)
         | Fault::Changed(_)
+        | Fault::Unknown(_)
         | Fault::Unstopped(_)
         | Fault::Write
         | Fault::Counted => 2,

@@ -42,6 +42,17 @@ pub fn changed(rt: &HostRuntime, name: &str) -> Fault {
     }
 }
 
+/// What is said of the event of this line of a run, if its bytes may have been sent before a start.
+pub fn unknown(rt: &HostRuntime, name: &str, line: u32) -> Fault {
+    let Ok(shown) = shown_text(rt.alloc(), name) else {
+        return Fault::Memory;
+    };
+    match format!(in rt.alloc(); "{shown} line {line}") {
+        Ok(text) => Fault::Unknown(text),
+        Err(_) => Fault::Memory,
+    }
+}
+
 // What is said of a file that is no regular one.
 fn irregular(rt: &HostRuntime, file: &str) -> Fault {
     match shown_text(rt.alloc(), file) {

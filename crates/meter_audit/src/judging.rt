@@ -19,7 +19,7 @@ pub enum Outcome {
     Wrong(u32),
     Forged(u32),
     /// An event contains bytes, and what was sent and released is not kept.
-    Unkept,
+    Unkept(u32),
     More(u32, Ending),
     Unread(Input),
     Memory,
@@ -60,7 +60,7 @@ fn told_by(judgment: &Judgment) -> Told {
             Outcome::Wrong(*line)
         }
         Verdict::Forged(line) => Outcome::Forged(*line),
-        Verdict::Unkept(_) => Outcome::Unkept,
+        Verdict::Unkept(line) => Outcome::Unkept(*line),
         Verdict::More(line, ending) => Outcome::More(*line, *ending),
         Verdict::Memory => Outcome::Memory,
         Verdict::Unread(input, _) => Outcome::Unread(*input),
@@ -79,7 +79,7 @@ fn ending_of(outcome: Outcome) -> Ending {
         Outcome::Stopped(_)
         | Outcome::Wrong(_)
         | Outcome::Forged(_)
-        | Outcome::Unkept
+        | Outcome::Unkept(_)
         | Outcome::Unread(_)
         | Outcome::Memory => Ending::Done,
     }

@@ -17,6 +17,8 @@ mod prints;
 mod runs;
 mod scripts;
 mod seen;
+mod starting;
+mod storage_files;
 mod storages;
 mod tails;
 mod verdicts;
@@ -27,8 +29,6 @@ use audit_journal::Form;
 use audit_pages::{tell_page, tell_table};
 use audit_recount::Recount;
 use audit_words::{Asked, Call, HELP, VERSION, Words, WordsFault, read_call};
-use bench_base::numbers::DevNo;
-use bench_base::words::Node;
 use checking::check;
 use faults::{Fault, code_of, or_book, or_memory, or_write};
 use page::tell_html;
@@ -36,8 +36,10 @@ use plan::{Plan, plan_of};
 use prints::{Said, judge_prints};
 use runs::{Gathered, judge_all, say, say_finding};
 use seen::{SeenFile, read_seen, tell_seen};
+use starting::{halted, starts_of};
 use std::process::ExitCode;
 use std::{env, io};
+use storage_files::node_at;
 use storages::tell_storages;
 use trace_bench::Auditor;
 use verdicts::FINDING;
@@ -65,17 +67,6 @@ fn form_of(asked: Asked) -> Form {
         Asked::Csv => Form::Csv,
         Asked::Json => Form::Json,
         Asked::Ledger => Form::Ledger,
-    }
-}
-
-fn node_at(number: u32) -> Node {
-    match DevNo::new(number) {
-        Some(device) => Node::Device(device),
-        None => match number {
-            9 => Node::Centre,
-            10 => Node::Host,
-            _ => Node::Verifier,
-        },
     }
 }
 
@@ -243,21 +234,60 @@ fn has_bytes(planned: &Result<Plan, Fault>) -> bool {
     }
 }
 
-// Judges what the words name.
-fn audit(rt: &HostRuntime, words: Words) -> Result<u8, Fault> {
-    let form = form_of(words.asked);
-    let has_facts = words.asked == Asked::Html;
-    let planned = plan_of(rt, words);
-    let is_kept = has_bytes(&planned);
-    let Ok(mut auditor) = Auditor::new(rt.alloc(), is_kept) else {
-        return Err(Fault::Memory);
-    };
-    let Ok(mut clerk) = Recount::new(rt.alloc(), form, is_kept, has_facts) else {
+// Judges what was planned over what this auditor has. The second one goes over the runs once more.
+fn audit_over(
+    rt: &HostRuntime,
+    asked: Asked,
+    planned: Result<Plan, Fault>,
+    auditor: Auditor,
+    second: Auditor,
+) -> Result<u8, Fault>
+    requires ready { IsReady (audit_of auditor) }
+    requires ready_second { IsReady (audit_of second) }
+{
+    let mut auditor = auditor;
+    let has_facts = asked == Asked::Html;
+    let Ok(mut clerk) = Recount::new(rt.alloc(), second, form_of(asked), has_facts) else {
         return Err(Fault::Memory);
     };
     or_book(clerk.book.begin())?;
     let judged = judge_words(rt, planned, &mut auditor, &mut clerk);
     end_journal(rt, &mut clerk, judged)
+}
+
+// Judges what the words name, from blank storages on.
+fn audit_from_blank(rt: &HostRuntime, words: Words) -> Result<u8, Fault> {
+    let asked = words.asked;
+    let planned = plan_of(rt, words);
+    let is_kept = has_bytes(&planned);
+    let Ok(auditor) = Auditor::new(rt.alloc(), is_kept) else {
+        return Err(Fault::Memory);
+    };
+    let Ok(second) = Auditor::new(rt.alloc(), is_kept) else {
+        return Err(Fault::Memory);
+    };
+    audit_over(rt, asked, planned, auditor, second)
+}
+
+// Judges what the words name, from the storages of this folder on.
+fn audit_from(rt: &HostRuntime, folder: &str, words: Words) -> Result<u8, Fault> {
+    let asked = words.asked;
+    match starts_of(rt, asked, folder) {
+        Ok(starts) => {
+            let planned = plan_of(rt, words);
+            audit_over(rt, asked, planned, starts.auditor, starts.second)
+        }
+        Err(halt) => halted(rt, asked, halt),
+    }
+}
+
+// Judges what the words name.
+fn audit(rt: &HostRuntime, words: Words) -> Result<u8, Fault> {
+    let mut words = words;
+    match words.start.take() {
+        Some(folder) => audit_from(rt, folder.as_str(), words),
+        None => audit_from_blank(rt, words),
+    }
 }
 
 // Prints a text.
@@ -275,6 +305,7 @@ fn called(rt: &HostRuntime) -> Result<u8, Fault> {
         Ok(Call::Help) => tell_text(rt, HELP),
         Ok(Call::Version) => tell_text(rt, VERSION),
         Err(WordsFault::Usage) => Err(Fault::Words),
+        Err(WordsFault::Start) => Err(Fault::Start),
         Err(WordsFault::Memory) => Err(Fault::Memory),
     }
 }

@@ -97,6 +97,7 @@ pub fn plan_of(rt: &HostRuntime, words: Words) -> Result<Plan, Fault> {
         prints,
         seen,
         storages,
+        start: _,
         asked,
         is_lenient,
         names,

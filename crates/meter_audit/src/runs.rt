@@ -3,7 +3,7 @@ ghost use Rattle.trace_bench.specs.Seeing.{IsReady, audit_of};
 
 use crate::digest::{NO_RUNS, Sum, digest_with};
 use crate::faults::{Fault, or_book, or_memory, or_write};
-use crate::files::{changed, open_of, rates_of, unusable_of, whole_run};
+use crate::files::{changed, open_of, rates_of, unknown, unusable_of, whole_run};
 use crate::judging::{Judged, Outcome, judge_over};
 use crate::page::{keep_run, run_finding};
 use crate::plan::{Plan, is_counted, takes_output};
@@ -68,10 +68,12 @@ pub fn say_finding(rt: &HostRuntime, asked: Asked, text: &str) -> u8 {
 }
 
 // Prints the verdict on a run: its exit status.
-fn tell(rt: &HostRuntime, asked: Asked, name: &str, judged: &Judged) -> Result<u8, Fault> {
+fn tell(rt: &HostRuntime, plan: &Plan, name: &str, judged: &Judged) -> Result<u8, Fault> {
     match judged.outcome {
         Outcome::Memory => return Err(Fault::Memory),
-        Outcome::Unkept => return Err(changed(rt, name)),
+        // If bytes were expected, all that was sent is kept, but for what came before a start.
+        Outcome::Unkept(line) if plan.has_bytes => return Err(unknown(rt, name, line)),
+        Outcome::Unkept(_) => return Err(changed(rt, name)),
         Outcome::Unread(Input::Script) => return Err(unusable_of(rt, name, ".script")),
         Outcome::Unread(Input::Report) => return Err(unusable_of(rt, name, ".report")),
         Outcome::Lawful(_)
@@ -83,9 +85,9 @@ fn tell(rt: &HostRuntime, asked: Asked, name: &str, judged: &Judged) -> Result<u
     let name = or_memory(shown_text(rt.alloc(), name))?;
     let text = or_memory(verdict_text(rt.alloc(), name.as_str(), judged))?;
     if is_finding(judged) {
-        return Ok(say_finding(rt, asked, text.as_str()));
+        return Ok(say_finding(rt, plan.asked, text.as_str()));
     }
-    say(rt, asked, text.as_str())?;
+    say(rt, plan.asked, text.as_str())?;
     Ok(0)
 }
 
@@ -218,12 +220,12 @@ fn judge_next(
     if !is_counted(plan.asked) {
         let judged = judge_files(rt, auditor, name, &plan.rates, &mut gathered.imprints)?;
         gathered.gather(&judged, auditor.day())?;
-        return tell(rt, plan.asked, name, &judged);
+        return tell(rt, plan, name, &judged);
     }
     let run = whole_run(rt, name, &plan.rates)?;
     let judged = judge_whole(rt.alloc(), auditor, &run, &mut gathered.imprints)?;
     gathered.gather(&judged, auditor.day())?;
-    let code = tell(rt, plan.asked, name, &judged)?;
+    let code = tell(rt, plan, name, &judged)?;
     if code != 0 {
         gathered.finding = run_finding(rt.alloc(), &judged, place, auditor.day(), run);
         return Ok(code);

@@ -1,34 +1,37 @@
 //! The storages of a folder, compared with what the runs left.
 ghost use Rattle.trace_bench.specs.Seeing.{IsReady, audit_of};
 
+use crate::digest::{Hashed, Sum, sum_text};
 use crate::faults::{Fault, or_memory};
 use crate::files::unusable;
 use crate::held::HeldFolder;
 use crate::runs::{say, say_finding};
+use crate::storage_files::{
+    FileFault, STORAGES, file_fault, file_fault_text, node_at, path_in, storage_name,
+};
 use crate::verdicts::FINDING;
 use audit_words::{Asked, shown_text};
-use bench_base::numbers::DevNo;
-use bench_base::sizes::{CENTRE_BYTES, DEVICE_BYTES, VERIFIER_BYTES};
 use bench_base::stream::{IoSource, ReadFail};
 use bench_base::words::Node;
-use host_jobs::HOST_BYTES;
+use sha2::{Digest, Sha256};
 use std::alloc::{AllocError, Global};
+use std::cell::RefCell;
 use std::fs::{self, File};
-use std::io::{self, BufReader};
+use std::io::BufReader;
 use trace_bench::Auditor;
 use trace_folder::{
     Due, Found, MOST_CELL, Shows, centre_due, centre_shows, device_due, device_shows, found_in,
     host_due, host_shows, verifier_due, verifier_shows,
 };
 
-/// How many storages a bench has.
-const STORAGES: u32 = 11;
-
 /// How much of a storage is read at once, in bytes.
 const BLOCK: usize = 65_536;
 
 /// The storages that belong to no node: they are not compared, since no run with lines of its own is judged.
 const OWN_STORAGES: [&str; 2] = ["claims.nv", "departments.nv"];
+
+/// A storage that is read.
+type Image<'a> = IoSource<BufReader<Hashed<'a, File>>>;
 
 /// What is said of a storage.
 #[derive(Clone, Copy)]
@@ -37,62 +40,15 @@ enum Told {
     Open,
     /// The cell, what it should hold, and what it holds.
     Other(u32, Due, Found),
-    Missing,
-    Link,
-    Irregular,
-    /// It has so many bytes, and not its own number.
-    Size(u64),
-}
-
-// The node of this number, from 1: the devices, the centre, the host and the verifier.
-fn node_at(number: u32) -> Node {
-    match DevNo::new(number) {
-        Some(device) => Node::Device(device),
-        None => match number {
-            9 => Node::Centre,
-            10 => Node::Host,
-            _ => Node::Verifier,
-        },
-    }
-}
-
-// The name of the node's storage.
-fn storage_name(alloc: Global, node: &Node) -> Result<String, AllocError> {
-    match node {
-        Node::Device(device) => {
-            let number = device.get();
-            format!(in alloc; "device-{number}.nv")
-        }
-        Node::Centre => String::from_str(alloc, "centre.nv"),
-        Node::Host => String::from_str(alloc, "host.nv"),
-        Node::Verifier => String::from_str(alloc, "verifier.nv"),
-    }
-}
-
-// The path of a file in the folder.
-fn path_in(alloc: Global, folder: &str, file: &str) -> Result<String, AllocError> {
-    if folder.ends_with('/') {
-        format!(in alloc; "{folder}{file}")
-    } else {
-        format!(in alloc; "{folder}/{file}")
-    }
-}
-
-// How many bytes the storage of the node has.
-fn storage_bytes(node: &Node) -> u64 {
-    u64::from(match node {
-        Node::Device(_) => DEVICE_BYTES,
-        Node::Centre => CENTRE_BYTES,
-        Node::Host => HOST_BYTES,
-        Node::Verifier => VERIFIER_BYTES,
-    })
+    /// What is wrong with the file as such.
+    Unfit(FileFault),
 }
 
 // What the image of the node's storage shows. The first cell that shows something else is then in the buffer.
 fn image_shows(
     auditor: &Auditor,
     node: &Node,
-    image: &mut IoSource<BufReader<File>>,
+    image: &mut Image<'_>,
     buffer: &mut [u8; MOST_CELL],
 ) -> Result<Shows, ReadFail>
     requires ready { IsReady (audit_of auditor.now) }
@@ -127,24 +83,17 @@ fn found_of(node: &Node, buffer: &[u8; MOST_CELL]) -> Found {
     }
 }
 
-// What is wrong with the file as such, if something is.
-fn fault_of(rt: &HostRuntime, path: &str, node: &Node) -> Result<Option<Told>, Fault> {
-    match fs::symlink_metadata(rt, path) {
-        Ok(found) if found.file_type().is_symlink() => Ok(Some(Told::Link)),
-        Ok(found) if !found.is_file() => Ok(Some(Told::Irregular)),
-        Ok(found) if found.len() != storage_bytes(node) => Ok(Some(Told::Size(found.len()))),
-        Ok(_) => Ok(None),
-        Err(error) if error.kind() == io::ErrorKind::NotFound => Ok(Some(Told::Missing)),
-        Err(_) => Err(unusable(rt, path)),
-    }
-}
-
-// The bytes of a storage, which are read in blocks.
-fn open_storage(rt: &HostRuntime, path: &str) -> Result<IoSource<BufReader<File>>, Fault> {
-    let Ok(opened) = File::open(rt, path) else {
+// The bytes of a storage, which are read in blocks and hashed.
+fn open_storage<'a>(
+    rt: &HostRuntime,
+    path: &str,
+    hasher: &'a RefCell<Sha256>,
+) -> Result<Image<'a>, Fault> {
+    let Ok(inner) = File::open(rt, path) else {
         return Err(unusable(rt, path));
     };
-    let Ok(reader) = BufReader::with_capacity(rt.alloc(), BLOCK, opened) else {
+    let hashed = Hashed { inner, hasher };
+    let Ok(reader) = BufReader::with_capacity(rt.alloc(), BLOCK, hashed) else {
         return Err(Fault::Memory);
     };
     Ok(IoSource::new(reader))
@@ -156,14 +105,15 @@ fn look_at(
     auditor: &Auditor,
     node: &Node,
     path: &str,
+    hasher: &RefCell<Sha256>,
     buffer: &mut [u8; MOST_CELL],
 ) -> Result<Told, Fault>
     requires ready { IsReady (audit_of auditor.now) }
 {
-    if let Some(told) = fault_of(rt, path, node)? {
-        return Ok(told);
+    if let Some(fault) = file_fault(rt, path, node)? {
+        return Ok(Told::Unfit(fault));
     }
-    let mut image = open_storage(rt, path)?;
+    let mut image = open_storage(rt, path, hasher)?;
     match image_shows(auditor, node, &mut image, buffer) {
         Ok(Shows::Counted) => Ok(Told::Counted),
         Ok(Shows::Open) => Ok(Told::Open),
@@ -251,16 +201,12 @@ fn told_text(
     is_open: bool,
     told: Told,
 ) -> Result<Option<String>, AllocError> {
-    let bytes = storage_bytes(node);
     let text = match told {
         Told::Counted if is_open => format!(in alloc; "{file} is without the commit in doubt")?,
         Told::Counted => return Ok(None),
         Told::Open => format!(in alloc; "{file} has the commit in doubt")?,
         Told::Other(place, due, found) => other_text(alloc, file, node, place, due, found)?,
-        Told::Missing => format!(in alloc; "{file} is missing")?,
-        Told::Link => format!(in alloc; "{file} is a link")?,
-        Told::Irregular => format!(in alloc; "{file} is no regular file")?,
-        Told::Size(found) => format!(in alloc; "{file}: due {bytes} bytes, found {found}")?,
+        Told::Unfit(fault) => file_fault_text(alloc, file, node, fault)?,
     };
     Ok(Some(text))
 }
@@ -269,7 +215,7 @@ fn told_text(
 fn is_other(told: Told) -> bool {
     match told {
         Told::Counted | Told::Open => false,
-        Told::Other(_, _, _) | Told::Missing | Told::Link | Told::Irregular | Told::Size(_) => true,
+        Told::Other(_, _, _) | Told::Unfit(_) => true,
     }
 }
 
@@ -280,13 +226,14 @@ fn tell_storage(
     auditor: &Auditor,
     node: &Node,
     folder: &str,
+    hasher: &RefCell<Sha256>,
     buffer: &mut [u8; MOST_CELL],
 ) -> Result<u8, Fault>
     requires ready { IsReady (audit_of auditor.now) }
 {
     let file = or_memory(storage_name(rt.alloc(), node))?;
     let path = or_memory(path_in(rt.alloc(), folder, file.as_str()))?;
-    let told = look_at(rt, auditor, node, path.as_str(), buffer)?;
+    let told = look_at(rt, auditor, node, path.as_str(), hasher, buffer)?;
     let is_open = auditor.is_open(node);
     let Some(text) = or_memory(told_text(rt.alloc(), file.as_str(), node, is_open, told))? else {
         return Ok(0);
@@ -308,7 +255,31 @@ fn tell_own(rt: &HostRuntime, asked: Asked, folder: &str, file: &str) -> Result<
     say(rt, asked, text.as_str())
 }
 
-/// Compares the storages of the folder, if one is named, with what the runs left, and says what is to be said of each: the exit status.
+// Compares the storages of the folder, which are hashed, and says what is to be said of each: the exit status.
+fn tell_each(
+    rt: &HostRuntime,
+    asked: Asked,
+    auditor: &Auditor,
+    folder: &str,
+    hasher: &RefCell<Sha256>,
+) -> Result<u8, Fault>
+    requires ready { IsReady (audit_of auditor.now) }
+{
+    let mut code = 0;
+    let mut buffer = [0; MOST_CELL];
+    for number in 0..STORAGES {
+        let node = node_at(number + 1);
+        let told = tell_storage(rt, asked, auditor, &node, folder, hasher, &mut buffer)?;
+        code = code.max(told);
+    }
+    for file in OWN_STORAGES {
+        tell_own(rt, asked, folder, file)?;
+    }
+    Ok(code)
+}
+
+/// Compares the storages of the folder, if one is named, with what the runs left, and says what is to be said of each: the exit status. If nothing is found,
+/// the digest is the last line.
 pub fn tell_storages(
     rt: &HostRuntime,
     asked: Asked,
@@ -320,22 +291,21 @@ pub fn tell_storages(
     let Some(folder) = folder else {
         return Ok(0);
     };
-    let name = folder.name.as_str();
-    let mut code = 0;
-    let mut buffer = [0; MOST_CELL];
-    for number in 0..STORAGES {
-        let node = node_at(number + 1);
-        let told = tell_storage(rt, asked, auditor, &node, name, &mut buffer)?;
-        code = code.max(told);
-    }
-    for file in OWN_STORAGES {
-        tell_own(rt, asked, name, file)?;
-    }
+    let hasher = RefCell::new(Sha256::new());
+    let code = tell_each(rt, asked, auditor, folder.name.as_str(), &hasher)?;
     if code == FINDING {
         return Ok(code);
     }
-    let shown = or_memory(shown_text(rt.alloc(), name))?;
+    let shown = or_memory(shown_text(rt.alloc(), folder.name.as_str()))?;
     let text = or_memory(format!(in rt.alloc(); "folder {shown} shows what the runs left"))?;
     say(rt, asked, text.as_str())?;
+    tell_digest(rt, asked, shown.as_str(), &hasher.into_inner().finalize())?;
     Ok(0)
+}
+
+/// Prints the digest of the folder of this name, as it is shown.
+pub fn tell_digest(rt: &HostRuntime, asked: Asked, shown: &str, sum: &Sum) -> Result<(), Fault> {
+    let digits = or_memory(sum_text(rt.alloc(), sum))?;
+    let text = or_memory(format!(in rt.alloc(); "folder {shown} has digest {digits}"))?;
+    say(rt, asked, text.as_str())
 }

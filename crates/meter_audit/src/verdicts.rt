@@ -12,7 +12,7 @@ pub fn is_finding(judged: &Judged) -> bool {
         Outcome::Wrong(_) | Outcome::Forged(_) | Outcome::More(_, _) => true,
         Outcome::Lawful(_)
         | Outcome::Stopped(_)
-        | Outcome::Unkept
+        | Outcome::Unkept(_)
         | Outcome::Unread(_)
         | Outcome::Memory => false,
     }
@@ -33,7 +33,7 @@ pub fn stopped_at(judged: &Judged) -> Option<u32> {
         Outcome::Lawful(_)
         | Outcome::Wrong(_)
         | Outcome::Forged(_)
-        | Outcome::Unkept
+        | Outcome::Unkept(_)
         | Outcome::More(_, _)
         | Outcome::Unread(_)
         | Outcome::Memory => None,
@@ -92,7 +92,7 @@ pub fn verdict_text(alloc: Global, name: &str, judged: &Judged) -> Result<String
             format!(in alloc; "forged {name} line {line}\nscript {script}\nfound {found}")
         }
         Outcome::More(line, ending) => more_text(alloc, name, line, ending, judged),
-        Outcome::Unkept | Outcome::Unread(_) | Outcome::Memory => {
+        Outcome::Unkept(_) | Outcome::Unread(_) | Outcome::Memory => {
             format!(in alloc; "{name} was not judged")
         }
     }
