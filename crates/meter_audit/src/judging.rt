@@ -9,7 +9,7 @@ use std::alloc::{AllocError, Global};
 use std::cell::RefCell;
 use std::io::Read;
 use trace_bench::Auditor;
-use trace_runs::{Ending, Imprint, Input, Judgment, Verdict, audit_run, read_line};
+use trace_runs::{Ending, Imprint, Input, Judgment, Verdict, judge_next, read_line};
 
 /// What came of a run. Numbers are those of lines of its script.
 #[derive(Clone, Copy)]
@@ -110,8 +110,8 @@ fn gave_nothing(tail: &RefCell<Tail>) -> bool {
     }
 }
 
-/// Judges a run over what the auditor has, by what these read. Each is read once: the imprints are added to those of the runs before. AllocError is
-/// lack of memory beside that of the verdict.
+/// Judges the next run over what the auditor has of the runs before, by what these read. Each is read once: the imprints are added to those of the
+/// runs before. AllocError is lack of memory beside that of the verdict.
 pub fn judge_over<S: Read + Drop, R: Read + Drop>(
     alloc: Global,
     auditor: &mut Auditor,
@@ -127,7 +127,7 @@ pub fn judge_over<S: Read + Drop, R: Read + Drop>(
     let report_tail = RefCell::new(Tail::new(alloc)?);
     let mut script = lines_over(alloc, script, &script_tail)?;
     let mut report = lines_over(alloc, report, &report_tail)?;
-    let told = told_by(&audit_run(alloc, auditor, &mut script, &mut report, rates, imprints));
+    let told = told_by(&judge_next(alloc, auditor, &mut script, &mut report, rates, imprints));
     let found = found_in(alloc, told.outcome, &mut report, &report_tail)?;
     let line = last_taken(alloc, &mut script, &script_tail)?;
     Ok(Judged {
