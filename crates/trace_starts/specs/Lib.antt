@@ -1,0 +1,2 @@
+-- Promised: public contracts name these.
+pub mod Standing
