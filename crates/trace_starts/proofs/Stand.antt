@@ -60,8 +60,9 @@ module _ {K S N C R T : Type 0} (n : Ghosts K S N C R) (h : nv.Ghosts T) (seen :
   ]
 
   -- the record that the image shows is what is seen of the node
-  pub node_seen : (s : n.Seen) → n.IsSound d s → n.IsShown s image → rested s ≡ view_in m seen H
-  node_seen s sound shows = view_same s (view_in m seen H) (n.one_shown d s (seen (counted H)) image sound (stands.1.sound tells).state shows shown) none_next stands.0
+  pub node_seen : ((a b : n.Seen) → n.IsSound d a → n.IsSound d b → n.IsShown a image → n.IsShown b image → a ≡ b) → (s : n.Seen) → n.IsSound d s → n.IsShown s image
+      → rested s ≡ view_in m seen H
+  node_seen one s sound shows = view_same s (view_in m seen H) (one s (seen (counted H)) sound (stands.1.sound tells).state shows shown) none_next stands.0
 
   -- so the image shows a record
   pub node_shown : ((s : n.Seen) → n.IsSound d s → n.IsShown s image → ⊥) → ⊥
