@@ -8,7 +8,7 @@ use crate::files::unusable;
 use crate::held::hold;
 use crate::runs::say_finding;
 use crate::storage_files::{file_fault, file_fault_text, path_in, storage_name};
-use crate::storages::tell_digest;
+use crate::storages::{tell_digest, tell_own_storages};
 use audit_words::{Asked, shown_text};
 use bench_base::numbers::DevNo;
 use bench_base::words::Node;
@@ -215,6 +215,7 @@ pub fn starts_of(rt: &HostRuntime, asked: Asked, folder: &str) -> Result<Starts,
     let second = second_of(rt, asked, folder, &start.digest)?;
     let shown = or_halt(or_memory(shown_text(rt.alloc(), folder)))?;
     or_halt(tell_digest(rt, asked, shown.as_str(), &start.digest))?;
+    or_halt(tell_own_storages(rt, asked, folder, "read"))?;
     Ok(Starts {
         auditor: start.auditor,
         second,

@@ -27,7 +27,7 @@ use trace_folder::{
 /// How much of a storage is read at once, in bytes.
 const BLOCK: usize = 65_536;
 
-/// The storages that belong to no node: they are not compared, since no run with lines of its own is judged.
+/// The storages that belong to no node: they are not compared or read, since no run with lines of its own is judged.
 const OWN_STORAGES: [&str; 2] = ["claims.nv", "departments.nv"];
 
 /// A storage that is read.
@@ -245,14 +245,33 @@ fn tell_storage(
     Ok(0)
 }
 
-// Says of a storage that belongs to no node, if it is there, that it was not compared.
-fn tell_own(rt: &HostRuntime, asked: Asked, folder: &str, file: &str) -> Result<(), Fault> {
+// Says of a storage that belongs to no node, if it is there, that this was not done with it.
+fn tell_own(
+    rt: &HostRuntime,
+    asked: Asked,
+    folder: &str,
+    file: &str,
+    undone: &str,
+) -> Result<(), Fault> {
     let path = or_memory(path_in(rt.alloc(), folder, file))?;
     if fs::symlink_metadata(rt, path.as_str()).is_err() {
         return Ok(());
     }
-    let text = or_memory(format!(in rt.alloc(); "{file} was not compared"))?;
+    let text = or_memory(format!(in rt.alloc(); "{file} was not {undone}"))?;
     say(rt, asked, text.as_str())
+}
+
+/// Says of each storage of the folder that belongs to no node that this was not done with it.
+pub fn tell_own_storages(
+    rt: &HostRuntime,
+    asked: Asked,
+    folder: &str,
+    undone: &str,
+) -> Result<(), Fault> {
+    for file in OWN_STORAGES {
+        tell_own(rt, asked, folder, file, undone)?;
+    }
+    Ok(())
 }
 
 // Compares the storages of the folder, which are hashed, and says what is to be said of each: the exit status.
@@ -272,9 +291,7 @@ fn tell_each(
         let told = tell_storage(rt, asked, auditor, &node, folder, hasher, &mut buffer)?;
         code = code.max(told);
     }
-    for file in OWN_STORAGES {
-        tell_own(rt, asked, folder, file)?;
-    }
+    tell_own_storages(rt, asked, folder, "compared")?;
     Ok(code)
 }
 
