@@ -33,7 +33,7 @@ fn has_mills(entry: &JournalEntry) -> bool {
 }
 
 impl Facts {
-    /// Nothing is known; what is told is kept, or not. AllocError is lack of memory.
+    /// Nothing is known yet; what is entered is kept, or not. AllocError if memory runs out.
     pub fn new(alloc: Global, is_kept: bool) -> Result<Facts, AllocError> {
         let cells = Cells::new(alloc)?;
         Ok(Facts {

@@ -1,4 +1,4 @@
-//! Where what is known of a device or a customer is kept.
+//! The slot of a device or a customer among the cells.
 use bench_base::numbers::{Customer, DevNo};
 
 /// The slot of what was accepted.

@@ -59,7 +59,7 @@ pub struct Counts {
     pub duplicates: u64,
 }
 
-/// All of it, with the first day and the last one that was told.
+/// All of it, with the first day and the last one that was entered.
 #[derive(Drop)]
 pub struct Standing {
     pub devices: Vec<DeviceStanding>,

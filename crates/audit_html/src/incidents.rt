@@ -1,6 +1,6 @@
 //! The panel of incidents: what failed or was stopped, what was not granted, and what was refused.
 use crate::refusals::put_refusals;
-use audit_facts::Told;
+use audit_facts::PageContent;
 use audit_markup::{
     MOST_ROWS, begin_table, end_table, put_amount, put_code, put_head, put_more, put_name, put_time,
 };
@@ -14,9 +14,9 @@ use bench_base::words::Verdict;
 const MOST_LINE: usize = 60;
 
 /// Puts the run and the line of a place.
-pub(crate) fn put_place(sheet: &mut Sheet, told: &Told<'_>, place: &Place) {
+pub(crate) fn put_place(sheet: &mut Sheet, page: &PageContent<'_>, place: &Place) {
     sheet.put_own("<td>");
-    if let Some(name) = told.names.get(place.run) {
+    if let Some(name) = page.names.get(place.run) {
         put_name(sheet, name.as_str());
     }
     sheet.put_own("<span class=\"q\">:");
@@ -53,9 +53,9 @@ fn outcome_words(incident: &Incident) -> &'static str {
 }
 
 // Puts the line of an incident and its answer.
-fn put_lines(sheet: &mut Sheet, told: &Told<'_>, at: usize) {
+fn put_lines(sheet: &mut Sheet, page: &PageContent<'_>, at: usize) {
     sheet.put_own("<td>");
-    match told.facts.lines.get(at) {
+    match page.facts.lines.get(at) {
         Some(lines) if lines.answer.is_empty() => {
             put_code(sheet, lines.script.as_slice(), MOST_LINE);
             sheet.put_own("</td><td><i>no answer</i>");
@@ -70,10 +70,10 @@ fn put_lines(sheet: &mut Sheet, told: &Told<'_>, at: usize) {
     sheet.put_own("</td><td>");
 }
 
-fn put_incident(sheet: &mut Sheet, told: &Told<'_>, at: usize, incident: &Incident) {
+fn put_incident(sheet: &mut Sheet, page: &PageContent<'_>, at: usize, incident: &Incident) {
     put_day(sheet, incident.day);
-    put_place(sheet, told, &incident.place);
-    put_lines(sheet, told, at);
+    put_place(sheet, page, &incident.place);
+    put_lines(sheet, page, at);
     sheet.put_own(mishap_words(&incident.mishap));
     sheet.put_own(outcome_words(incident));
 }
@@ -88,8 +88,8 @@ fn begin_list(sheet: &mut Sheet, heading: &'static str, count: usize) {
     put_head(sheet, "run and line");
 }
 
-fn put_failures(sheet: &mut Sheet, told: &Told<'_>) {
-    let count = told.incidents.len();
+fn put_failures(sheet: &mut Sheet, page: &PageContent<'_>) {
+    let count = page.incidents.len();
     if count == 0 {
         return;
     }
@@ -101,7 +101,7 @@ fn put_failures(sheet: &mut Sheet, told: &Told<'_>) {
     sheet.put_own("</tr></thead><tbody>");
     for at in 0..count {
         if at < MOST_ROWS {
-            put_incident(sheet, told, at, &told.incidents[at]);
+            put_incident(sheet, page, at, &page.incidents[at]);
         }
     }
     end_table(sheet);
@@ -120,9 +120,9 @@ fn verdict_words(verdict: Verdict) -> &'static str {
     }
 }
 
-fn put_request(sheet: &mut Sheet, told: &Told<'_>, found: &Ungranted) {
+fn put_request(sheet: &mut Sheet, page: &PageContent<'_>, found: &Ungranted) {
     put_day(sheet, found.ask.day);
-    put_place(sheet, told, &found.place);
+    put_place(sheet, page, &found.place);
     sheet.put_own("<td>d");
     sheet.put_number(found.device.get() as u64);
     sheet.put_own("</td><td>");
@@ -138,8 +138,8 @@ fn put_request(sheet: &mut Sheet, told: &Told<'_>, found: &Ungranted) {
     sheet.put_own("</td></tr>");
 }
 
-fn put_requests(sheet: &mut Sheet, told: &Told<'_>) {
-    let count = told.ungranted.len();
+fn put_requests(sheet: &mut Sheet, page: &PageContent<'_>) {
+    let count = page.ungranted.len();
     if count == 0 {
         return;
     }
@@ -150,7 +150,7 @@ fn put_requests(sheet: &mut Sheet, told: &Told<'_>) {
     sheet.put_own("</tr></thead><tbody>");
     for at in 0..count {
         if at < MOST_ROWS {
-            put_request(sheet, told, &told.ungranted[at]);
+            put_request(sheet, page, &page.ungranted[at]);
         }
     }
     end_table(sheet);
@@ -158,13 +158,13 @@ fn put_requests(sheet: &mut Sheet, told: &Told<'_>) {
 }
 
 /// Puts what failed, was stopped, was not granted and was refused.
-pub fn put_incidents(sheet: &mut Sheet, told: &Told<'_>) {
-    let refusals = told.facts.refusals.as_slice();
+pub fn put_incidents(sheet: &mut Sheet, page: &PageContent<'_>) {
+    let refusals = page.facts.refusals.as_slice();
     sheet.put_own("<section id=\"incidents\"><h2>Incidents</h2>");
-    put_failures(sheet, told);
-    put_requests(sheet, told);
-    put_refusals(sheet, told, refusals);
-    if told.incidents.is_empty() && told.ungranted.is_empty() && refusals.is_empty() {
+    put_failures(sheet, page);
+    put_requests(sheet, page);
+    put_refusals(sheet, page, refusals);
+    if page.incidents.is_empty() && page.ungranted.is_empty() && refusals.is_empty() {
         sheet.put_own("<p class=\"none\">None: no power cut, no failure, no stop, no refusal.</p>");
     }
     sheet.put_own("</section>\n");

@@ -1,6 +1,6 @@
 //! The panel of mail: what became of the pieces that were franked, pieces a day, and what was paid and never printed. Amounts are in mills.
 use crate::months::put_months;
-use audit_facts::{ACCEPTED, Counts, Told};
+use audit_facts::{ACCEPTED, Counts, PageContent};
 use audit_markup::{
     MOST_ROWS, begin_picture, begin_plot, begin_table, end_table, many, put_amount_cell,
     put_count_cell, put_head, put_hundredths, put_more, put_number_head, put_time, share,
@@ -45,20 +45,20 @@ const MEANINGS: [&str; 3] = [
 ];
 
 // Whether the mark of the piece was printed.
-fn is_printed(told: &Told<'_>, piece: &Piece) -> bool {
+fn is_printed(page: &PageContent<'_>, piece: &Piece) -> bool {
     let Some(job) = piece.job else {
         return false;
     };
-    match told.jobs.get((job as usize).saturating_sub(1)) {
+    match page.jobs.get((job as usize).saturating_sub(1)) {
         Some(job) => job.printed,
         None => false,
     }
 }
 
-fn add_piece(told: &Told<'_>, pieces: &mut Pieces, piece: &Piece) {
+fn add_piece(page: &PageContent<'_>, pieces: &mut Pieces, piece: &Piece) {
     let at: usize = if piece.accepted {
         0
-    } else if is_printed(told, piece) {
+    } else if is_printed(page, piece) {
         1
     } else {
         2
@@ -67,20 +67,20 @@ fn add_piece(told: &Told<'_>, pieces: &mut Pieces, piece: &Piece) {
     pieces.postage[at] = pieces.postage[at].saturating_add(piece.postage);
 }
 
-fn add_device(told: &Told<'_>, pieces: &mut Pieces, device: DevNo) {
-    for piece in told.pieces.of_device(device).iter() {
-        add_piece(told, pieces, piece);
+fn add_device(page: &PageContent<'_>, pieces: &mut Pieces, device: DevNo) {
+    for piece in page.pieces.of_device(device).iter() {
+        add_piece(page, pieces, piece);
     }
 }
 
-fn pieces_of(told: &Told<'_>) -> Pieces {
+fn pieces_of(page: &PageContent<'_>) -> Pieces {
     let mut pieces = Pieces {
         counts: [0; 3],
         postage: [0; 3],
     };
     for number in 1..9 {
         if let Some(device) = DevNo::new(number) {
-            add_device(told, &mut pieces, device);
+            add_device(page, &mut pieces, device);
         }
     }
     pieces
@@ -160,8 +160,8 @@ fn put_parts(sheet: &mut Sheet, pieces: &Pieces) {
 }
 
 // Adds the pieces of a slot to the values of their cells.
-fn add_slot(values: &mut Vec<u64>, told: &Told<'_>, axis: &Axis, span: &Span, slot: usize) {
-    for cell in told.facts.cells.of(slot).iter() {
+fn add_slot(values: &mut Vec<u64>, page: &PageContent<'_>, axis: &Axis, span: &Span, slot: usize) {
+    for cell in page.facts.cells.of(slot).iter() {
         let at = usize::try_from(axis.cell(span.within(cell.day))).unwrap_or(0);
         if at < values.len() {
             values[at] = values[at].saturating_add(cell.pieces);
@@ -172,13 +172,13 @@ fn add_slot(values: &mut Vec<u64>, told: &Told<'_>, axis: &Axis, span: &Span, sl
 // Of each cell how many pieces were franked.
 fn franked_in(
     alloc: Global,
-    told: &Told<'_>,
+    page: &PageContent<'_>,
     axis: &Axis,
     span: &Span,
 ) -> Result<Vec<u64>, AllocError> {
     let mut values = vec![in alloc; 0; usize::try_from(axis.cells).unwrap_or(0)]?;
     for slot in 0..8 {
-        add_slot(&mut values, told, axis, span, slot);
+        add_slot(&mut values, page, axis, span, slot);
     }
     Ok(values)
 }
@@ -186,12 +186,12 @@ fn franked_in(
 // Of each cell how many pieces were accepted.
 fn accepted_in(
     alloc: Global,
-    told: &Told<'_>,
+    page: &PageContent<'_>,
     axis: &Axis,
     span: &Span,
 ) -> Result<Vec<u64>, AllocError> {
     let mut values = vec![in alloc; 0; usize::try_from(axis.cells).unwrap_or(0)]?;
-    add_slot(&mut values, told, axis, span, ACCEPTED);
+    add_slot(&mut values, page, axis, span, ACCEPTED);
     Ok(values)
 }
 
@@ -223,7 +223,7 @@ fn put_curves(sheet: &mut Sheet, axis: &Axis, franked: &[u64], accepted: &[u64],
 fn put_pieces(
     alloc: Global,
     sheet: &mut Sheet,
-    told: &Told<'_>,
+    page: &PageContent<'_>,
     span: &Span,
 ) -> Result<(), AllocError> {
     let days = Axis::weekly(span.first, span.last, MOST_BARS);
@@ -231,8 +231,8 @@ fn put_pieces(
         cells: days.cells.max(FEWEST_CELLS),
         ..days
     };
-    let franked = franked_in(alloc, told, &axis, span)?;
-    let accepted = accepted_in(alloc, told, &axis, span)?;
+    let franked = franked_in(alloc, page, &axis, span)?;
+    let accepted = accepted_in(alloc, page, &axis, span)?;
     let most = greatest(franked.as_slice(), NONE).max(greatest(accepted.as_slice(), NONE));
     let ticks = ticks_for(most);
     sheet.put_own("<h3>Pieces ");
@@ -362,11 +362,11 @@ fn put_counts(sheet: &mut Sheet, counts: &Counts) {
 }
 
 /// Puts the mail, in runs that have a day.
-pub fn put_mail(sheet: &mut Sheet, told: &Told<'_>) {
-    let Some(span) = span_of(told.standing) else {
+pub fn put_mail(sheet: &mut Sheet, page: &PageContent<'_>) {
+    let Some(span) = span_of(page.standing) else {
         return;
     };
-    let pieces = pieces_of(told);
+    let pieces = pieces_of(page);
     sheet.put_own("<section id=\"mail\"><h2>Mail</h2>");
     if sum_to(&pieces.counts, 3) == 0 {
         return sheet.put_own("<p class=\"none\">No piece was franked.</p></section>\n");
@@ -374,10 +374,10 @@ pub fn put_mail(sheet: &mut Sheet, told: &Told<'_>) {
     put_bar(sheet, &pieces);
     put_parts(sheet, &pieces);
     let alloc = sheet.alloc();
-    if put_pieces(alloc, sheet, told, &span).is_err() {
+    if put_pieces(alloc, sheet, page, &span).is_err() {
         sheet.lose();
     }
-    put_months(sheet, told, &span);
-    put_spoiled(sheet, told.jobs);
-    put_counts(sheet, &told.standing.counts);
+    put_months(sheet, page, &span);
+    put_spoiled(sheet, page.jobs);
+    put_counts(sheet, &page.standing.counts);
 }

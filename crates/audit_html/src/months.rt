@@ -1,5 +1,5 @@
 //! Mail by month. Amounts are in mills.
-use audit_facts::{ACCEPTED, Told};
+use audit_facts::{ACCEPTED, PageContent};
 use audit_markup::{
     begin_table, end_table, part, put_amount_cell, put_count_cell, put_head, put_hundredths,
     put_number_head,
@@ -17,8 +17,8 @@ struct Sum {
 }
 
 // What was franked and accepted in the months from the first up to the end.
-fn sum_in(told: &Told<'_>, span: &Span, first: u32, end: u32) -> Sum {
-    let accepted = month_sum(told.facts.cells.of(ACCEPTED), span, first, end);
+fn sum_in(page: &PageContent<'_>, span: &Span, first: u32, end: u32) -> Sum {
+    let accepted = month_sum(page.facts.cells.of(ACCEPTED), span, first, end);
     let mut sum = Sum {
         franked: 0,
         postage: 0,
@@ -26,7 +26,7 @@ fn sum_in(told: &Told<'_>, span: &Span, first: u32, end: u32) -> Sum {
         accepted_postage: accepted.franked,
     };
     for slot in 0..8 {
-        let franked = month_sum(told.facts.cells.of(slot), span, first, end);
+        let franked = month_sum(page.facts.cells.of(slot), span, first, end);
         sum.franked = sum.franked.saturating_add(franked.pieces);
         sum.postage = sum.postage.saturating_add(franked.franked);
     }
@@ -34,10 +34,10 @@ fn sum_in(told: &Told<'_>, span: &Span, first: u32, end: u32) -> Sum {
 }
 
 // The greatest postage of a month.
-fn most_of(told: &Told<'_>, span: &Span, first: u32, end: u32) -> u64 {
+fn most_of(page: &PageContent<'_>, span: &Span, first: u32, end: u32) -> u64 {
     let mut most = 0;
     for month in first..end {
-        let sum = sum_in(told, span, month, month.saturating_add(1));
+        let sum = sum_in(page, span, month, month.saturating_add(1));
         if sum.postage > most {
             most = sum.postage;
         }
@@ -64,7 +64,7 @@ fn put_month(sheet: &mut Sheet, month: u32, sum: &Sum, most: u64) {
 }
 
 /// Puts mail by month.
-pub fn put_months(sheet: &mut Sheet, told: &Told<'_>, span: &Span) {
+pub fn put_months(sheet: &mut Sheet, page: &PageContent<'_>, span: &Span) {
     sheet.put_own("<h3>By month</h3>");
     begin_table(sheet, "mm");
     put_head(sheet, "month");
@@ -75,12 +75,12 @@ pub fn put_months(sheet: &mut Sheet, told: &Told<'_>, span: &Span) {
     put_number_head(sheet, "postage");
     sheet.put_own("</tr></thead><tbody>");
     let months = months_of(span);
-    let most = most_of(told, span, months.first, months.end);
+    let most = most_of(page, span, months.first, months.end);
     for month in months.shown..months.end {
-        let sum = sum_in(told, span, month, month.saturating_add(1));
+        let sum = sum_in(page, span, month, month.saturating_add(1));
         put_month(sheet, month, &sum, most);
     }
-    let all = sum_in(told, span, months.first, months.end);
+    let all = sum_in(page, span, months.first, months.end);
     sheet.put_own("<tr class=\"sum\"><th scope=\"row\">all</th>");
     put_count_cell(sheet, all.franked);
     put_amount_cell(sheet, all.postage);

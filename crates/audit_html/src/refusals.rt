@@ -1,6 +1,8 @@
 //! Refusals: a row for each cause, with what it means and what to do.
 use crate::incidents::put_place;
-use audit_facts::{Refused, Told, cause_words, is_alarm, is_of_device, meaning_of, remedy_for};
+use audit_facts::{
+    PageContent, Refused, cause_words, is_alarm, is_of_device, meaning_of, remedy_for,
+};
 use audit_markup::{
     MOST_ROWS, begin_table, end_table, put_count, put_counted, put_head, put_more, put_number_head,
     put_time,
@@ -88,7 +90,7 @@ fn put_meaning(sheet: &mut Sheet, cause: usize) {
     sheet.put_own("</td><td class=\"n\">");
 }
 
-fn put_row(sheet: &mut Sheet, told: &Told<'_>, row: &Refused) {
+fn put_row(sheet: &mut Sheet, page: &PageContent<'_>, row: &Refused) {
     sheet.put_own("<tr><th scope=\"row\">");
     put_cause(sheet, row);
     put_meaning(sheet, row.cause);
@@ -98,7 +100,7 @@ fn put_row(sheet: &mut Sheet, told: &Told<'_>, row: &Refused) {
         put_time(sheet, i64::from(day.get()));
     }
     sheet.put_own("</td>");
-    put_place(sheet, told, &row.last);
+    put_place(sheet, page, &row.last);
     sheet.put_own("</tr>");
 }
 
@@ -114,21 +116,21 @@ fn put_heads(sheet: &mut Sheet) {
     sheet.put_own("</tr></thead><tbody>");
 }
 
-fn put_rows(sheet: &mut Sheet, told: &Told<'_>, rows: &[Refused]) {
+fn put_rows(sheet: &mut Sheet, page: &PageContent<'_>, rows: &[Refused]) {
     let mut last = None;
     for _ in 0..MOST_ROWS {
         let Some(at) = next_of(rows, last) else {
             return;
         };
         if let Some(row) = rows.get(at) {
-            put_row(sheet, told, row);
+            put_row(sheet, page, row);
         }
         last = Some(at);
     }
 }
 
 /// Puts the refusals.
-pub fn put_refusals(sheet: &mut Sheet, told: &Told<'_>, rows: &[Refused]) {
+pub fn put_refusals(sheet: &mut Sheet, page: &PageContent<'_>, rows: &[Refused]) {
     if rows.is_empty() {
         return;
     }
@@ -139,7 +141,7 @@ pub fn put_refusals(sheet: &mut Sheet, told: &Told<'_>, rows: &[Refused]) {
     sheet.put_own("<h3>Refusals <small>");
     put_count(sheet, count);
     put_heads(sheet);
-    put_rows(sheet, told, rows);
+    put_rows(sheet, page, rows);
     end_table(sheet);
     put_more(sheet, rows.len(), MOST_ROWS, "the causes after these");
 }

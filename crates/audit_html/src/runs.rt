@@ -1,5 +1,5 @@
 //! The last panels: the numbers to note, and the runs with their digests.
-use audit_facts::{NodeStanding, RunFact, RunState, Told};
+use audit_facts::{NodeStanding, PageContent, RunFact, RunState};
 use audit_markup::{month_of, put_count, put_date, put_digest, put_name};
 use audit_panels::put_node;
 use audit_sheet::Sheet;
@@ -96,9 +96,9 @@ fn put_days(sheet: &mut Sheet, run: &RunFact) {
     }
 }
 
-fn put_run(sheet: &mut Sheet, told: &Told<'_>, at: usize, run: &RunFact) {
+fn put_run(sheet: &mut Sheet, page: &PageContent<'_>, at: usize, run: &RunFact) {
     sheet.put_own("<tr><th scope=\"row\">");
-    if let Some(name) = told.names.get(at) {
+    if let Some(name) = page.names.get(at) {
         put_name(sheet, name.as_str());
     }
     sheet.put_own("</th><td>");
@@ -110,34 +110,34 @@ fn put_run(sheet: &mut Sheet, told: &Told<'_>, at: usize, run: &RunFact) {
     });
     sheet.put_number(run.answers as u64);
     sheet.put_own("</td><td>");
-    if let Some(digest) = told.digests.get(at) {
+    if let Some(digest) = page.digests.get(at) {
         put_digest(sheet, digest);
     }
     sheet.put_own("</td></tr>");
 }
 
 // Puts the rows of the table, but for so many at the beginning.
-fn put_rows(sheet: &mut Sheet, told: &Told<'_>, each: Each, left_out: usize) {
-    let runs = told.facts.runs.as_slice();
+fn put_rows(sheet: &mut Sheet, page: &PageContent<'_>, each: Each, left_out: usize) {
+    let runs = page.facts.runs.as_slice();
     let mut count = 0usize;
     for at in 0..runs.len() {
         if is_shown(runs, each, at) {
             if count >= left_out {
-                put_run(sheet, told, at, &runs[at]);
+                put_run(sheet, page, at, &runs[at]);
             }
             count = count.saturating_add(1);
         }
     }
 }
 
-fn put_table(sheet: &mut Sheet, told: &Told<'_>) {
-    let runs = told.facts.runs.as_slice();
+fn put_table(sheet: &mut Sheet, page: &PageContent<'_>) {
+    let runs = page.facts.runs.as_slice();
     let each = each_of(runs);
     let shown = count_shown(runs, each);
     sheet.put_own(
         "<details class=\"long\"><summary>Each run with the digest up to it</summary><div class=\"tw\"><table class=\"rn\"><thead><tr><th scope=\"col\">run</th><th scope=\"col\">days</th><th scope=\"col\">verdict</th><th scope=\"col\" class=\"n\">answers</th><th scope=\"col\">digest</th></tr></thead><tbody>",
     );
-    put_rows(sheet, told, each, shown.saturating_sub(MOST_RUNS));
+    put_rows(sheet, page, each, shown.saturating_sub(MOST_RUNS));
     sheet.put_own("</tbody></table></div>");
     if runs.len() > shown.min(MOST_RUNS) {
         sheet.put_own("<p class=\"q\">");
@@ -150,15 +150,15 @@ fn put_table(sheet: &mut Sheet, told: &Told<'_>) {
 }
 
 /// Puts the runs with their digests.
-pub fn put_runs(sheet: &mut Sheet, told: &Told<'_>) {
+pub fn put_runs(sheet: &mut Sheet, page: &PageContent<'_>) {
     sheet.put_own("<section id=\"runs\"><h2>Runs <small>");
-    sheet.put_number(told.facts.runs.len() as u64);
+    sheet.put_number(page.facts.runs.len() as u64);
     sheet.put_own(
         "</small></h2><p>The last digest covers scripts, reports and rates of all runs in their order. Keep it elsewhere:</p><p class=\"dg\">",
     );
-    if let Some(digest) = told.digests.last() {
+    if let Some(digest) = page.digests.last() {
         put_digest(sheet, digest);
     }
     sheet.put_own("</p>");
-    put_table(sheet, told);
+    put_table(sheet, page);
 }

@@ -1,7 +1,7 @@
 //! The finding: where it is, what was due and what is there, what it may be, and the lines around it.
 use crate::verdict::put_run;
 use audit_facts::{
-    FindingKind, Found, LINES, Line, PrintsSaid, PrintsState, RunFinding, Told, whole,
+    FindingKind, Found, LINES, Line, PageContent, PrintsFinding, PrintsState, RunFinding, whole,
 };
 use audit_markup::{
     many, put_code, put_count, put_digest, put_name, put_place, put_texts, put_time,
@@ -51,13 +51,13 @@ fn put_row(sheet: &mut Sheet, name: &'static str) {
     sheet.put_own("</th><td>");
 }
 
-fn put_run_row(sheet: &mut Sheet, told: &Told<'_>, finding: &RunFinding) {
+fn put_run_row(sheet: &mut Sheet, page: &PageContent<'_>, finding: &RunFinding) {
     put_row(sheet, "Run");
-    put_run(sheet, told, finding.run);
+    put_run(sheet, page, finding.run);
     sheet.put_own(", the ");
     put_place(sheet, (finding.run as u64).saturating_add(1));
     sheet.put_own(" of ");
-    sheet.put_number(told.names.len() as u64);
+    sheet.put_number(page.names.len() as u64);
     sheet.put_own("</td></tr>");
 }
 
@@ -101,8 +101,8 @@ fn put_answer_rows(sheet: &mut Sheet, finding: &RunFinding, answer: &[u8]) {
     }
 }
 
-fn put_digest_row(sheet: &mut Sheet, told: &Told<'_>) {
-    if let Some(digest) = told.digests.last() {
+fn put_digest_row(sheet: &mut Sheet, page: &PageContent<'_>) {
+    if let Some(digest) = page.digests.last() {
         put_row(sheet, "Digest before it");
         put_digest(sheet, digest);
         sheet.put_own("</td></tr>");
@@ -118,7 +118,12 @@ fn first_word(line: &[u8]) -> &[u8] {
 }
 
 // Says what a wrong answer to this line may be.
-fn put_cause_of_wrong(sheet: &mut Sheet, told: &Told<'_>, finding: &RunFinding, script: &[u8]) {
+fn put_cause_of_wrong(
+    sheet: &mut Sheet,
+    page: &PageContent<'_>,
+    finding: &RunFinding,
+    script: &[u8],
+) {
     let word = first_word(script);
     if word == b"on".as_slice() {
         return sheet.put_own(
@@ -127,7 +132,7 @@ fn put_cause_of_wrong(sheet: &mut Sheet, told: &Told<'_>, finding: &RunFinding, 
     }
     if word == b"rates".as_slice() {
         sheet.put_own("Look first whether ");
-        if let Some(name) = told.names.get(finding.run) {
+        if let Some(name) = page.names.get(finding.run) {
             put_name(sheet, name.as_str());
         }
         return sheet.put_own(
@@ -139,10 +144,10 @@ fn put_cause_of_wrong(sheet: &mut Sheet, told: &Told<'_>, finding: &RunFinding, 
     );
 }
 
-fn put_cause(sheet: &mut Sheet, told: &Told<'_>, finding: &RunFinding, script: &[u8]) {
+fn put_cause(sheet: &mut Sheet, page: &PageContent<'_>, finding: &RunFinding, script: &[u8]) {
     sheet.put_own("</tbody></table><h3>What it may be</h3><p>");
     match finding.kind {
-        FindingKind::Wrong => put_cause_of_wrong(sheet, told, finding, script),
+        FindingKind::Wrong => put_cause_of_wrong(sheet, page, finding, script),
         FindingKind::Forged => sheet.put_own(
             "Someone has the key of that device, gave the host a mark that no device released, or a run before this one was left out.",
         ),
@@ -189,18 +194,18 @@ fn put_around(sheet: &mut Sheet, finding: &RunFinding, place: u64) {
     }
 }
 
-fn put_run_finding(sheet: &mut Sheet, told: &Told<'_>, finding: &RunFinding) {
+fn put_run_finding(sheet: &mut Sheet, page: &PageContent<'_>, finding: &RunFinding) {
     let (at, script, answer) = match place_of(finding) {
         Some(place) => (place.at, place.line.script, place.line.answer),
         None => (0, b"".as_slice(), b"".as_slice()),
     };
     sheet.put_own("<table class=\"fd\"><tbody>");
-    put_run_row(sheet, told, finding);
+    put_run_row(sheet, page, finding);
     put_day_row(sheet, finding);
     put_script_row(sheet, finding, script);
     put_answer_rows(sheet, finding, answer);
-    put_digest_row(sheet, told);
-    put_cause(sheet, told, finding, script);
+    put_digest_row(sheet, page);
+    put_cause(sheet, page, finding, script);
     put_around(sheet, finding, at);
     sheet.put_own(
         "</tbody></table></div><p class=\"q\">Keys and whole marks are never shown.</p></section>\n",
@@ -208,8 +213,8 @@ fn put_run_finding(sheet: &mut Sheet, told: &Told<'_>, finding: &RunFinding) {
 }
 
 // The job of the print at this line.
-fn job_at(told: &Told<'_>, said: &PrintsSaid) -> Option<u32> {
-    for print in told.facts.prints.iter() {
+fn job_at(page: &PageContent<'_>, said: &PrintsFinding) -> Option<u32> {
+    for print in page.facts.prints.iter() {
         if print.place.run == said.run && print.place.line == said.line {
             return Some(print.job);
         }
@@ -218,12 +223,12 @@ fn job_at(told: &Told<'_>, said: &PrintsSaid) -> Option<u32> {
 }
 
 // Says which print it is.
-fn put_print(sheet: &mut Sheet, told: &Told<'_>, said: &PrintsSaid) {
+fn put_print(sheet: &mut Sheet, page: &PageContent<'_>, said: &PrintsFinding) {
     sheet.put_own("<p>It is run ");
-    put_run(sheet, told, said.run);
+    put_run(sheet, page, said.run);
     sheet.put_own(", line ");
     put_count(sheet, said.line as u64);
-    if let Some(job) = job_at(told, said) {
+    if let Some(job) = job_at(page, said) {
         sheet.put_own(", job ");
         sheet.put_number(job as u64);
     }
@@ -234,13 +239,13 @@ fn put_print(sheet: &mut Sheet, told: &Told<'_>, said: &PrintsSaid) {
     sheet.put_own(", or another line is there.");
 }
 
-fn put_prints_finding(sheet: &mut Sheet, told: &Told<'_>, said: &PrintsSaid) {
+fn put_prints_finding(sheet: &mut Sheet, page: &PageContent<'_>, said: &PrintsFinding) {
     if let PrintsState::GoOn = said.state {
         sheet.put_own("<p>Bytes are left over in ");
         put_name(sheet, said.file.as_str());
         sheet.put_own(" after the last print.");
     } else {
-        put_print(sheet, told, said);
+        put_print(sheet, page, said);
     }
     sheet.put_own(" ");
     many(sheet, said.marks, "mark was", "marks were");
@@ -256,26 +261,26 @@ fn put_prints_finding(sheet: &mut Sheet, told: &Told<'_>, said: &PrintsSaid) {
 }
 
 /// Puts the finding, if there is one.
-pub fn put_finding(sheet: &mut Sheet, told: &Told<'_>, found: &Found<'_>) {
+pub fn put_finding(sheet: &mut Sheet, page: &PageContent<'_>, found: &Found<'_>) {
     const HEAD: &str = "<section id=\"finding\"><h2>The finding</h2>";
     if let Some(finding) = found.finding {
         sheet.put_own(HEAD);
-        return put_run_finding(sheet, told, finding);
+        return put_run_finding(sheet, page, finding);
     }
     if let Some(said) = found.prints {
         if let PrintsState::Differ | PrintsState::GoOn = said.state {
             sheet.put_own(HEAD);
-            put_prints_finding(sheet, told, said);
+            put_prints_finding(sheet, page, said);
         }
     }
 }
 
 /// Says that all figures are those of the runs before the finding, if one was found in a run.
-pub fn put_cut(sheet: &mut Sheet, told: &Told<'_>, found: &Found<'_>) {
+pub fn put_cut(sheet: &mut Sheet, page: &PageContent<'_>, found: &Found<'_>) {
     if found.finding.is_none() {
         return;
     }
-    let runs = told.facts.runs.len();
+    let runs = page.facts.runs.len();
     if runs == 0 {
         return sheet.put_own(
             "<p class=\"cut\">No run before the finding, so there are no figures.</p>\n",
@@ -284,6 +289,6 @@ pub fn put_cut(sheet: &mut Sheet, told: &Told<'_>, found: &Found<'_>) {
     sheet.put_own("<p class=\"cut\">All figures below are those of the ");
     many(sheet, runs as u64, "run", "runs");
     sheet.put_own(" before the finding, up to run ");
-    put_run(sheet, told, runs - 1);
+    put_run(sheet, page, runs - 1);
     sheet.put_own(".</p>\n");
 }

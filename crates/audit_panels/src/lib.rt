@@ -1,4 +1,4 @@
-//! The first panels of a page: the verdict, the finding, what to do, and where the money is.
+//! The first panels of a page: the verdict, the finding, what to do, and the deposits.
 #![tactic(auto)]
 
 mod finding;

@@ -1,4 +1,4 @@
-//! Where the money is. Amounts are in mills.
+//! The deposits and their parts. Amounts are in mills.
 use audit_facts::{DeviceStanding, Standing};
 use audit_markup::{
     begin_picture, begin_table, end_table, many, put_amount_cell, put_head, put_hundredths,

@@ -1,5 +1,5 @@
 //! What is to be done: what waits, how soon, and the line to type.
-use audit_facts::{DeviceStanding, Told, device_slot};
+use audit_facts::{DeviceStanding, PageContent, device_slot};
 use audit_markup::{MOST_ROWS, many, put_date, put_date_words, put_more};
 use audit_sheet::Sheet;
 use audit_tally::Job;
@@ -190,7 +190,7 @@ fn put_pending(sheet: &mut Sheet, list: &mut List, device: &DeviceStanding, kind
     put_line(sheet, "resend d", number, "");
 }
 
-// Puts a request that the device has applied, of which the centre has not been told.
+// Puts a request that the device has applied, of which the centre has not been page.
 fn put_unsettled(sheet: &mut Sheet, list: &mut List, device: &DeviceStanding, kind: Kind) {
     if !list.begins(sheet, Level::Open) {
         return;
@@ -201,7 +201,7 @@ fn put_unsettled(sheet: &mut Sheet, list: &mut List, device: &DeviceStanding, ki
     sheet.put_own(kind_name(kind));
     sheet.put_own(" of ");
     sheet.put_mills(device.amount as i128);
-    sheet.put_own(" not settled</b> The device has applied it; the centre has not been told.");
+    sheet.put_own(" not settled</b> The device has applied it; the centre has not been page.");
     put_line(sheet, "ack d", number, "");
 }
 
@@ -216,9 +216,9 @@ fn put_between(sheet: &mut Sheet, list: &mut List, device: &DeviceStanding) {
 }
 
 // What the device franked in the last days, in mills.
-fn pace_of(told: &Told<'_>, device: &DeviceStanding, today: i64) -> u64 {
+fn pace_of(page: &PageContent<'_>, device: &DeviceStanding, today: i64) -> u64 {
     let mut spent = 0u64;
-    for cell in told.facts.cells.of(device_slot(device.device)).iter() {
+    for cell in page.facts.cells.of(device_slot(device.device)).iter() {
         if i64::from(cell.day) > today.saturating_sub(PACE as i64) {
             spent = spent.saturating_add(cell.franked);
         }
@@ -227,11 +227,11 @@ fn pace_of(told: &Told<'_>, device: &DeviceStanding, today: i64) -> u64 {
 }
 
 // Puts that little is left.
-fn put_left(sheet: &mut Sheet, list: &mut List, told: &Told<'_>, device: &DeviceStanding) {
+fn put_left(sheet: &mut Sheet, list: &mut List, page: &PageContent<'_>, device: &DeviceStanding) {
     let (Phase::InService | Phase::Locked) = device.phase else {
         return;
     };
-    let spent = pace_of(told, device, list.today);
+    let spent = pace_of(page, device, list.today);
     let reach = device.descending.saturating_mul(PACE);
     if spent == 0 || reach >= spent.saturating_mul(WARNED as u64) {
         return;
@@ -333,21 +333,21 @@ fn put_job(sheet: &mut Sheet, list: &mut List, number: u32, job: &Job, ordered: 
     }
 }
 
-fn put_jobs(sheet: &mut Sheet, list: &mut List, told: &Told<'_>) {
-    for at in 0..told.jobs.len() {
+fn put_jobs(sheet: &mut Sheet, list: &mut List, page: &PageContent<'_>) {
+    for at in 0..page.jobs.len() {
         let number = u32::try_from(at.saturating_add(1)).unwrap_or(u32::MAX);
         put_job(
             sheet,
             list,
             number,
-            &told.jobs[at],
-            told.standing.counts.ordered,
+            &page.jobs[at],
+            page.standing.counts.ordered,
         );
     }
 }
 
-fn put_customers(sheet: &mut Sheet, list: &mut List, told: &Told<'_>) {
-    for customer in told.standing.customers.iter() {
+fn put_customers(sheet: &mut Sheet, list: &mut List, page: &PageContent<'_>) {
+    for customer in page.standing.customers.iter() {
         if customer.is_suspended && list.begins(sheet, Level::Open) {
             let number = customer.customer.get();
             sheet.put_own("customer ");
@@ -368,8 +368,8 @@ pub fn put_node(sheet: &mut Sheet, node: Node) {
     }
 }
 
-fn put_nodes(sheet: &mut Sheet, list: &mut List, told: &Told<'_>) {
-    for standing in told.standing.nodes.iter() {
+fn put_nodes(sheet: &mut Sheet, list: &mut List, page: &PageContent<'_>) {
+    for standing in page.standing.nodes.iter() {
         if standing.is_open && list.begins(sheet, Level::Now) {
             put_node(sheet, standing.node);
             sheet.put_own(
@@ -382,20 +382,20 @@ fn put_nodes(sheet: &mut Sheet, list: &mut List, told: &Told<'_>) {
 }
 
 // Puts all items of the level of the list.
-fn put_items(sheet: &mut Sheet, list: &mut List, told: &Told<'_>) {
-    for device in told.standing.devices.iter() {
+fn put_items(sheet: &mut Sheet, list: &mut List, page: &PageContent<'_>) {
+    for device in page.standing.devices.iter() {
         put_phase(sheet, list, device);
         put_between(sheet, list, device);
-        put_left(sheet, list, told, device);
+        put_left(sheet, list, page, device);
     }
-    put_jobs(sheet, list, told);
-    put_customers(sheet, list, told);
-    put_nodes(sheet, list, told);
+    put_jobs(sheet, list, page);
+    put_customers(sheet, list, page);
+    put_nodes(sheet, list, page);
 }
 
 /// Puts what is to be done, as of the last day. Nothing without one.
-pub fn put_todo(sheet: &mut Sheet, told: &Told<'_>) {
-    let Some((_, last)) = told.standing.days else {
+pub fn put_todo(sheet: &mut Sheet, page: &PageContent<'_>) {
+    let Some((_, last)) = page.standing.days else {
         return;
     };
     let today = i64::from(last.get());
@@ -409,7 +409,7 @@ pub fn put_todo(sheet: &mut Sheet, told: &Told<'_>) {
     };
     for level in [Level::Now, Level::Soon, Level::Open] {
         list.level = level;
-        put_items(sheet, &mut list, told);
+        put_items(sheet, &mut list, page);
     }
     if list.count == 0 {
         sheet.put_own(

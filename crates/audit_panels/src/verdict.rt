@@ -1,5 +1,5 @@
 //! The verdict: what an audit found, in words.
-use audit_facts::{FindingKind, Found, PrintsSaid, PrintsState, RunFact, RunState, Told};
+use audit_facts::{FindingKind, Found, PageContent, PrintsFinding, PrintsState, RunFact, RunState};
 use audit_markup::{many, put_count, put_date_words, put_name};
 use audit_sheet::Sheet;
 
@@ -31,13 +31,13 @@ fn state_of(found: &Found<'_>) -> State {
 }
 
 // Whether the prints are not those of the runs.
-fn is_other(said: &PrintsSaid) -> bool {
+fn is_other(said: &PrintsFinding) -> bool {
     matches!(said.state, PrintsState::Differ | PrintsState::GoOn)
 }
 
 /// Puts the first day and the last.
-pub fn put_days(sheet: &mut Sheet, told: &Told<'_>) {
-    let Some((first, last)) = told.standing.days else {
+pub fn put_days(sheet: &mut Sheet, page: &PageContent<'_>) {
+    let Some((first, last)) = page.standing.days else {
         return sheet.put_own("no day");
     };
     put_date_words(sheet, i64::from(first.get()));
@@ -48,7 +48,7 @@ pub fn put_days(sheet: &mut Sheet, told: &Told<'_>) {
 }
 
 /// Puts the title that a browser shows.
-pub fn put_title(sheet: &mut Sheet, told: &Told<'_>, found: &Found<'_>) {
+pub fn put_title(sheet: &mut Sheet, page: &PageContent<'_>, found: &Found<'_>) {
     sheet.put_own(match state_of(found) {
         State::Lawful => "Lawful",
         State::Wrong => "NOT LAWFUL",
@@ -57,7 +57,7 @@ pub fn put_title(sheet: &mut Sheet, told: &Told<'_>, found: &Found<'_>) {
         State::Prints => "PRINTS DIFFER",
     });
     sheet.put_own(": meter audit, ");
-    put_days(sheet, told);
+    put_days(sheet, page);
 }
 
 // Puts the colour, the sign and the word of the verdict.
@@ -91,11 +91,11 @@ fn answers_in(runs: &[RunFact]) -> u64 {
     answers
 }
 
-fn put_lawful(sheet: &mut Sheet, told: &Told<'_>) {
+fn put_lawful(sheet: &mut Sheet, page: &PageContent<'_>) {
     sheet.put_own("A correct meter may have written every one of the ");
-    put_count(sheet, answers_in(told.facts.runs.as_slice()));
+    put_count(sheet, answers_in(page.facts.runs.as_slice()));
     sheet.put_own(" answers in ");
-    let runs = told.names.len();
+    let runs = page.names.len();
     if runs == 1 {
         return sheet.put_own("this run.</p>");
     }
@@ -104,8 +104,8 @@ fn put_lawful(sheet: &mut Sheet, told: &Told<'_>) {
     sheet.put_own(" runs.</p>");
 }
 
-fn put_other_prints(sheet: &mut Sheet, told: &Told<'_>, found: &Found<'_>) {
-    let runs = told.names.len() as u64;
+fn put_other_prints(sheet: &mut Sheet, page: &PageContent<'_>, found: &Found<'_>) {
+    let runs = page.names.len() as u64;
     sheet.put_own("All ");
     many(sheet, runs, "run", "runs");
     sheet.put_own(" are lawful, but ");
@@ -127,8 +127,8 @@ fn put_bold(sheet: &mut Sheet, name: &str) {
 }
 
 /// Puts the name of a run, in bold.
-pub(crate) fn put_run(sheet: &mut Sheet, told: &Told<'_>, run: usize) {
-    if let Some(name) = told.names.get(run) {
+pub(crate) fn put_run(sheet: &mut Sheet, page: &PageContent<'_>, run: usize) {
+    if let Some(name) = page.names.get(run) {
         put_bold(sheet, name.as_str());
     }
 }
@@ -158,42 +158,47 @@ fn put_others(sheet: &mut Sheet, before: u64, after: u64) {
     sheet.put_own(".</p>");
 }
 
-fn put_run_finding(sheet: &mut Sheet, told: &Told<'_>, found: &Found<'_>, words: &'static str) {
+fn put_run_finding(
+    sheet: &mut Sheet,
+    page: &PageContent<'_>,
+    found: &Found<'_>,
+    words: &'static str,
+) {
     let Some(finding) = found.finding else {
         return;
     };
     sheet.put_own(words);
     sheet.put_own(" in run ");
-    put_run(sheet, told, finding.run);
+    put_run(sheet, page, finding.run);
     sheet.put_own(", line ");
     put_count(sheet, finding.line as u64);
     sheet.put_own(" of its script. ");
-    let before = told.facts.runs.len();
-    let after = told.names.len().saturating_sub(before).saturating_sub(1);
+    let before = page.facts.runs.len();
+    let after = page.names.len().saturating_sub(before).saturating_sub(1);
     put_others(sheet, before as u64, after as u64);
 }
 
-fn put_sentence(sheet: &mut Sheet, told: &Told<'_>, found: &Found<'_>, state: State) {
+fn put_sentence(sheet: &mut Sheet, page: &PageContent<'_>, found: &Found<'_>, state: State) {
     match state {
-        State::Lawful => put_lawful(sheet, told),
-        State::Prints => put_other_prints(sheet, told, found),
+        State::Lawful => put_lawful(sheet, page),
+        State::Prints => put_other_prints(sheet, page, found),
         State::Wrong => {
             put_run_finding(
                 sheet,
-                told,
+                page,
                 found,
                 "No correct meter gives the answer found",
             )
         }
         State::Forged => put_run_finding(
             sheet,
-            told,
+            page,
             found,
             "Bytes that no node of these runs sent or released were given",
         ),
         State::More => put_run_finding(
             sheet,
-            told,
+            page,
             found,
             "The report goes on where the script has ended",
         ),
@@ -201,22 +206,22 @@ fn put_sentence(sheet: &mut Sheet, told: &Told<'_>, found: &Found<'_>, state: St
 }
 
 // Says where a run was stopped.
-fn put_stop(sheet: &mut Sheet, told: &Told<'_>, run: usize, line: u32) {
+fn put_stop(sheet: &mut Sheet, page: &PageContent<'_>, run: usize, line: u32) {
     sheet.put_own("<p class=\"q\">Run ");
-    put_run(sheet, told, run);
+    put_run(sheet, page, run);
     sheet.put_own(" was stopped before its answer to line ");
     put_count(sheet, line as u64);
     sheet.put_own(": what is missing there was not judged.</p>");
 }
 
 // Says which runs were stopped.
-fn put_stops(sheet: &mut Sheet, told: &Told<'_>) {
-    let runs = told.facts.runs.as_slice();
+fn put_stops(sheet: &mut Sheet, page: &PageContent<'_>) {
+    let runs = page.facts.runs.as_slice();
     let mut count = 0usize;
     for at in 0..runs.len() {
         if let RunState::Stopped(line) = runs[at].state {
             if count < MOST_NAMED {
-                put_stop(sheet, told, at, line);
+                put_stop(sheet, page, at, line);
             }
             count = count.saturating_add(1);
         }
@@ -229,9 +234,9 @@ fn put_stops(sheet: &mut Sheet, told: &Told<'_>) {
 }
 
 // Says where a script ends badly, or that it is too long.
-fn put_bad_end(sheet: &mut Sheet, told: &Told<'_>, run: usize, line: Option<u32>) {
+fn put_bad_end(sheet: &mut Sheet, page: &PageContent<'_>, run: usize, line: Option<u32>) {
     sheet.put_own("<p class=\"q\">Run ");
-    put_run(sheet, told, run);
+    put_run(sheet, page, run);
     sheet.put_own(": the script ends badly");
     match line {
         Some(line) => {
@@ -244,8 +249,8 @@ fn put_bad_end(sheet: &mut Sheet, told: &Told<'_>, run: usize, line: Option<u32>
 }
 
 // Says which scripts end badly.
-fn put_bad_ends(sheet: &mut Sheet, told: &Told<'_>) {
-    let runs = told.facts.runs.as_slice();
+fn put_bad_ends(sheet: &mut Sheet, page: &PageContent<'_>) {
+    let runs = page.facts.runs.as_slice();
     let mut count = 0usize;
     for at in 0..runs.len() {
         let (is_bad, line) = match runs[at].state {
@@ -254,7 +259,7 @@ fn put_bad_ends(sheet: &mut Sheet, told: &Told<'_>) {
             RunState::Lawful | RunState::Stopped(_) => (false, None),
         };
         if is_bad && count < MOST_NAMED {
-            put_bad_end(sheet, told, at, line);
+            put_bad_end(sheet, page, at, line);
             count = count.saturating_add(1);
         }
     }
@@ -265,7 +270,7 @@ fn put_unjudged_prints(sheet: &mut Sheet) {
 }
 
 // Says what is known of prints that are not found to be others.
-fn put_prints(sheet: &mut Sheet, said: &PrintsSaid) {
+fn put_prints(sheet: &mut Sheet, said: &PrintsFinding) {
     if is_other(said) {
         return;
     }
@@ -290,9 +295,9 @@ fn put_seen(sheet: &mut Sheet, file: &str) {
     );
 }
 
-fn put_notes(sheet: &mut Sheet, told: &Told<'_>, found: &Found<'_>) {
-    put_stops(sheet, told);
-    put_bad_ends(sheet, told);
+fn put_notes(sheet: &mut Sheet, page: &PageContent<'_>, found: &Found<'_>) {
+    put_stops(sheet, page);
+    put_bad_ends(sheet, page);
     match found.prints {
         Some(said) => put_prints(sheet, said),
         None => put_unjudged_prints(sheet),
@@ -303,11 +308,11 @@ fn put_notes(sheet: &mut Sheet, told: &Told<'_>, found: &Found<'_>) {
 }
 
 /// Puts the verdict.
-pub fn put_verdict(sheet: &mut Sheet, told: &Told<'_>, found: &Found<'_>) {
+pub fn put_verdict(sheet: &mut Sheet, page: &PageContent<'_>, found: &Found<'_>) {
     let state = state_of(found);
     put_word(sheet, state);
-    put_sentence(sheet, told, found, state);
-    put_notes(sheet, told, found);
+    put_sentence(sheet, page, found, state);
+    put_notes(sheet, page, found);
     if let State::Lawful = state {
         sheet.put_own(
             "<p class=\"q\">Lawful says that a correct meter can have written this. It does not say that one did, that mail was sent, or that a mark is on paper only once.</p>",

@@ -1,6 +1,6 @@
 //! The panel of customers: what each paid in, loaded, got back and has left, and by month. Amounts are in mills.
 use crate::tracks::{Months, Span, Track, month_sum, months_of, put_month_head, span_of, track_of};
-use audit_facts::{Cell, CustomerStanding, Told, customer_slot};
+use audit_facts::{Cell, CustomerStanding, PageContent, customer_slot};
 use audit_markup::{
     begin_picture, begin_plot, begin_table, end_table, put_amount_cell, put_count_cell, put_head,
     put_more, put_number_head,
@@ -21,9 +21,9 @@ const MANY: usize = 8;
 const MOST_LINES: usize = 200;
 
 // Puts the devices of a customer.
-fn put_owned(sheet: &mut Sheet, told: &Told<'_>, customer: Customer) {
+fn put_owned(sheet: &mut Sheet, page: &PageContent<'_>, customer: Customer) {
     let mut count = 0usize;
-    for device in told.standing.devices.iter() {
+    for device in page.standing.devices.iter() {
         if device.customer == Some(customer) {
             sheet.put_own(if count == 0 { "d" } else { ", d" });
             sheet.put_number(device.device.get() as u64);
@@ -35,11 +35,11 @@ fn put_owned(sheet: &mut Sheet, told: &Told<'_>, customer: Customer) {
     }
 }
 
-fn put_row(sheet: &mut Sheet, told: &Told<'_>, standing: &CustomerStanding) {
+fn put_row(sheet: &mut Sheet, page: &PageContent<'_>, standing: &CustomerStanding) {
     sheet.put_own("<tr><th scope=\"row\">");
     sheet.put_number(standing.customer.get() as u64);
     sheet.put_own("<span class=\"q\"> ");
-    put_owned(sheet, told, standing.customer);
+    put_owned(sheet, page, standing.customer);
     if standing.is_suspended {
         sheet.put_own(", <b>suspended</b>");
     }
@@ -75,17 +75,17 @@ fn put_curve(sheet: &mut Sheet, standing: &CustomerStanding, values: &[u64], mos
 fn put_picture(
     alloc: Global,
     sheet: &mut Sheet,
-    told: &Told<'_>,
+    page: &PageContent<'_>,
     span: &Span,
     standing: &CustomerStanding,
 ) -> Result<(), AllocError> {
-    let points = if told.standing.customers.len() > MANY {
+    let points = if page.standing.customers.len() > MANY {
         FEWER_POINTS
     } else {
         MOST_POINTS
     };
     let axis = Axis::new(span.first, span.last, points);
-    let cells = told.facts.cells.of(customer_slot(standing.customer));
+    let cells = page.facts.cells.of(customer_slot(standing.customer));
     let values = track_of(alloc, &axis, span, cells, Track::Level)?;
     let most = greatest(values.as_slice(), NONE);
     if most > 0 {
@@ -115,8 +115,8 @@ fn put_total(sheet: &mut Sheet, customers: &[CustomerStanding]) {
     sheet.put_own("</tr>");
 }
 
-fn put_table(sheet: &mut Sheet, told: &Told<'_>, span: &Span) {
-    let customers = told.standing.customers.as_slice();
+fn put_table(sheet: &mut Sheet, page: &PageContent<'_>, span: &Span) {
+    let customers = page.standing.customers.as_slice();
     begin_table(sheet, "cu");
     put_head(sheet, "customer");
     put_number_head(sheet, "paid in");
@@ -126,8 +126,8 @@ fn put_table(sheet: &mut Sheet, told: &Told<'_>, span: &Span) {
     sheet.put_own("</tr></thead><tbody>");
     let alloc = sheet.alloc();
     for standing in customers.iter() {
-        put_row(sheet, told, standing);
-        if put_picture(alloc, sheet, told, span, standing).is_err() {
+        put_row(sheet, page, standing);
+        if put_picture(alloc, sheet, page, span, standing).is_err() {
             sheet.lose();
         }
     }
@@ -138,19 +138,19 @@ fn put_table(sheet: &mut Sheet, told: &Told<'_>, span: &Span) {
 }
 
 // What happened of a customer in a month.
-fn sum_at(told: &Told<'_>, span: &Span, number: u32, month: u32) -> Option<Cell> {
+fn sum_at(page: &PageContent<'_>, span: &Span, number: u32, month: u32) -> Option<Cell> {
     let customer = Customer::new(number)?;
-    let cells = told.facts.cells.of(customer_slot(customer));
+    let cells = page.facts.cells.of(customer_slot(customer));
     let sum = month_sum(cells, span, month, month.saturating_add(1));
     let is_moved = sum.paid > 0 || sum.loaded > 0 || sum.returned > 0 || sum.pieces > 0;
     if is_moved { Some(sum) } else { None }
 }
 
 // How many customers something happened of in a month.
-fn count_in(told: &Told<'_>, span: &Span, month: u32) -> usize {
+fn count_in(page: &PageContent<'_>, span: &Span, month: u32) -> usize {
     let mut count = 0usize;
     for number in 1..65 {
-        if sum_at(told, span, number, month).is_some() {
+        if sum_at(page, span, number, month).is_some() {
             count = count.saturating_add(1);
         }
     }
@@ -158,10 +158,10 @@ fn count_in(told: &Told<'_>, span: &Span, month: u32) -> usize {
 }
 
 // In how many months something happened of a customer, over all.
-fn count_lines(told: &Told<'_>, span: &Span, months: &Months) -> usize {
+fn count_lines(page: &PageContent<'_>, span: &Span, months: &Months) -> usize {
     let mut count = 0usize;
     for month in months.first..months.end {
-        count = count.saturating_add(count_in(told, span, month));
+        count = count.saturating_add(count_in(page, span, month));
     }
     count
 }
@@ -180,10 +180,10 @@ fn put_line(sheet: &mut Sheet, number: u32, month: u32, sum: &Cell) {
 }
 
 // Puts the lines of a month, but for so many of them.
-fn put_lines(sheet: &mut Sheet, told: &Told<'_>, span: &Span, month: u32, left_out: usize) {
+fn put_lines(sheet: &mut Sheet, page: &PageContent<'_>, span: &Span, month: u32, left_out: usize) {
     let mut at = 0usize;
     for number in 1..65 {
-        if let Some(sum) = &sum_at(told, span, number, month) {
+        if let Some(sum) = &sum_at(page, span, number, month) {
             if at >= left_out {
                 put_line(sheet, number, month, sum);
             }
@@ -192,7 +192,7 @@ fn put_lines(sheet: &mut Sheet, told: &Told<'_>, span: &Span, month: u32, left_o
     }
 }
 
-fn put_months(sheet: &mut Sheet, told: &Told<'_>, span: &Span) {
+fn put_months(sheet: &mut Sheet, page: &PageContent<'_>, span: &Span) {
     sheet.put_own("<details><summary>By month and customer</summary>");
     begin_table(sheet, "");
     put_head(sheet, "month");
@@ -204,11 +204,11 @@ fn put_months(sheet: &mut Sheet, told: &Told<'_>, span: &Span) {
     put_number_head(sheet, "pieces");
     sheet.put_own("</tr></thead><tbody>");
     let months = months_of(span);
-    let lines = count_lines(told, span, &months);
+    let lines = count_lines(page, span, &months);
     let mut left_out = lines.saturating_sub(MOST_LINES);
     for month in months.first..months.end {
-        put_lines(sheet, told, span, month, left_out);
-        left_out = left_out.saturating_sub(count_in(told, span, month));
+        put_lines(sheet, page, span, month, left_out);
+        left_out = left_out.saturating_sub(count_in(page, span, month));
     }
     end_table(sheet);
     put_more(sheet, lines, MOST_LINES, "the months before");
@@ -216,14 +216,14 @@ fn put_months(sheet: &mut Sheet, told: &Told<'_>, span: &Span) {
 }
 
 /// Puts the customers, in runs that have a day.
-pub fn put_customers(sheet: &mut Sheet, told: &Told<'_>) {
-    let Some(span) = span_of(told.standing) else {
+pub fn put_customers(sheet: &mut Sheet, page: &PageContent<'_>) {
+    let Some(span) = span_of(page.standing) else {
         return;
     };
     sheet.put_own("<section id=\"customers\"><h2>Customers</h2>");
-    if told.standing.customers.is_empty() {
+    if page.standing.customers.is_empty() {
         return sheet.put_own("<p class=\"none\">No customer is open.</p></section>\n");
     }
-    put_table(sheet, told, &span);
-    put_months(sheet, told, &span);
+    put_table(sheet, page, &span);
+    put_months(sheet, page, &span);
 }

@@ -3,7 +3,7 @@ use crate::inspections::put_inspections;
 use crate::marks::{put_amounts, put_failures, put_moves, put_rings};
 use crate::strips::put_strip;
 use crate::tracks::{Span, Track, month_sum, months_of, put_month_head, span_of, track_of};
-use audit_facts::{DeviceStanding, Told, device_slot};
+use audit_facts::{DeviceStanding, PageContent, device_slot};
 use audit_markup::{
     begin_picture, begin_plot, begin_table, end_table, put_amount, put_amount_cell, put_count_cell,
     put_counted, put_date, put_head, put_key, put_number_head, put_time,
@@ -162,12 +162,12 @@ fn put_curves(sheet: &mut Sheet, axis: &Axis, franked: &[u64], total: &[u64], to
 fn put_picture(
     alloc: Global,
     sheet: &mut Sheet,
-    told: &Told<'_>,
+    page: &PageContent<'_>,
     span: &Span,
     device: &DeviceStanding,
 ) -> Result<(), AllocError> {
     let axis = Axis::new(span.first, span.last, MOST_POINTS);
-    let cells = told.facts.cells.of(device_slot(device.device));
+    let cells = page.facts.cells.of(device_slot(device.device));
     let total = track_of(alloc, &axis, span, cells, Track::Total)?;
     if greatest(total.as_slice(), NONE) == 0 {
         sheet.put_own("<p class=\"none\">Nothing was loaded.</p>");
@@ -185,17 +185,23 @@ fn put_picture(
         total.as_slice(),
         ticks.top,
     );
-    put_moves(sheet, told, &axis, span, device.device);
-    put_amounts(sheet, told, &axis, span, device.device);
-    put_failures(sheet, told, &axis, span, device);
+    put_moves(sheet, page, &axis, span, device.device);
+    put_amounts(sheet, page, &axis, span, device.device);
+    put_failures(sheet, page, &axis, span, device);
     put_strip(sheet, franked.as_slice(), flight.as_slice());
-    put_rings(sheet, told, &axis, span, device.device);
+    put_rings(sheet, page, &axis, span, device.device);
     sheet.put_own("</svg>");
     Ok(())
 }
 
-fn put_month(sheet: &mut Sheet, told: &Told<'_>, span: &Span, device: &DeviceStanding, month: u32) {
-    let cells = told.facts.cells.of(device_slot(device.device));
+fn put_month(
+    sheet: &mut Sheet,
+    page: &PageContent<'_>,
+    span: &Span,
+    device: &DeviceStanding,
+    month: u32,
+) {
+    let cells = page.facts.cells.of(device_slot(device.device));
     let sum = month_sum(cells, span, month, month.saturating_add(1));
     // Before that it was not made.
     if !sum.has_level {
@@ -210,7 +216,7 @@ fn put_month(sheet: &mut Sheet, told: &Told<'_>, span: &Span, device: &DeviceSta
     sheet.put_own("</tr>");
 }
 
-fn put_months(sheet: &mut Sheet, told: &Told<'_>, span: &Span, device: &DeviceStanding) {
+fn put_months(sheet: &mut Sheet, page: &PageContent<'_>, span: &Span, device: &DeviceStanding) {
     sheet.put_own("<details><summary>");
     put_device(sheet, device);
     sheet.put_own(" month by month</summary>");
@@ -224,21 +230,21 @@ fn put_months(sheet: &mut Sheet, told: &Told<'_>, span: &Span, device: &DeviceSt
     sheet.put_own("</tr></thead><tbody>");
     let months = months_of(span);
     for month in months.shown..months.end {
-        put_month(sheet, told, span, device, month);
+        put_month(sheet, page, span, device, month);
     }
     end_table(sheet);
     sheet.put_own("</details>");
 }
 
-fn put_block(sheet: &mut Sheet, told: &Told<'_>, span: &Span, device: &DeviceStanding) {
+fn put_block(sheet: &mut Sheet, page: &PageContent<'_>, span: &Span, device: &DeviceStanding) {
     put_name(sheet, device);
     put_facts(sheet, device);
     let alloc = sheet.alloc();
-    if put_picture(alloc, sheet, told, span, device).is_err() {
+    if put_picture(alloc, sheet, page, span, device).is_err() {
         sheet.lose();
     }
     put_standing(sheet, device);
-    put_months(sheet, told, span, device);
+    put_months(sheet, page, span, device);
 }
 
 fn put_legend(sheet: &mut Sheet) {
@@ -326,19 +332,19 @@ fn put_heads(sheet: &mut Sheet) {
 }
 
 /// Puts the devices, in runs that have a day.
-pub fn put_devices(sheet: &mut Sheet, told: &Told<'_>) {
-    let Some(span) = span_of(told.standing) else {
+pub fn put_devices(sheet: &mut Sheet, page: &PageContent<'_>) {
+    let Some(span) = span_of(page.standing) else {
         return;
     };
-    let devices = told.standing.devices.as_slice();
+    let devices = page.standing.devices.as_slice();
     sheet.put_own("<section id=\"devices\"><h2>Devices</h2>");
     if devices.is_empty() {
         return sheet.put_own("<p class=\"none\">No device was made.</p></section>\n");
     }
-    put_inspections(sheet, told, span.last);
+    put_inspections(sheet, page, span.last);
     put_legend(sheet);
     for device in devices.iter() {
-        put_block(sheet, told, &span, device);
+        put_block(sheet, page, &span, device);
     }
     put_heads(sheet);
     for device in devices.iter() {

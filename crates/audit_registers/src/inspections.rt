@@ -1,5 +1,5 @@
 //! Until when devices are inspected.
-use audit_facts::{DeviceStanding, Told};
+use audit_facts::{DeviceStanding, PageContent};
 use audit_markup::{begin_picture, many, put_date_words, put_hundredths};
 use audit_plots::Axis;
 use audit_sheet::Sheet;
@@ -126,8 +126,8 @@ fn put_labels(sheet: &mut Sheet, axis: &Axis, today: i64, down: u64) {
 }
 
 /// Puts until when each device is inspected.
-pub fn put_inspections(sheet: &mut Sheet, told: &Told<'_>, today: i64) {
-    let devices = told.standing.devices.as_slice();
+pub fn put_inspections(sheet: &mut Sheet, page: &PageContent<'_>, today: i64) {
+    let devices = page.standing.devices.as_slice();
     let down = ROW.saturating_mul(devices.len() as u64);
     let axis = Axis::new(
         today.saturating_sub(DAYS),

@@ -2,7 +2,7 @@
 ghost use Rattle.std.specs.Prelude.{◌<◌};
 
 use crate::tracks::Span;
-use audit_facts::{Applied, DeviceStanding, Told};
+use audit_facts::{Applied, DeviceStanding, PageContent};
 use audit_markup::{end_symbol, put_date, put_hundredths, put_name, put_symbol};
 use audit_panels::kind_name;
 use audit_plots::Axis;
@@ -67,7 +67,7 @@ fn place_of(kind: Kind) -> usize
 // Puts what the device applied, of each kind once in each cell: inspections, or all else.
 fn put_all(
     sheet: &mut Sheet,
-    told: &Told<'_>,
+    page: &PageContent<'_>,
     axis: &Axis,
     span: &Span,
     device: DevNo,
@@ -75,7 +75,7 @@ fn put_all(
 ) {
     let mut last = [NOWHERE; 5];
     let mut count = 0usize;
-    for applied in told.facts.cells.applied().iter() {
+    for applied in page.facts.cells.applied().iter() {
         let cell = axis.cell(span.within(applied.day));
         let place = place_of(applied.kind);
         let is_shown = applied.device == device && (applied.kind == Kind::Audit) == is_audit;
@@ -88,13 +88,25 @@ fn put_all(
 }
 
 /// Puts the resets, refunds and withdrawals of a device.
-pub fn put_moves(sheet: &mut Sheet, told: &Told<'_>, axis: &Axis, span: &Span, device: DevNo) {
-    put_all(sheet, told, axis, span, device, false);
+pub fn put_moves(
+    sheet: &mut Sheet,
+    page: &PageContent<'_>,
+    axis: &Axis,
+    span: &Span,
+    device: DevNo,
+) {
+    put_all(sheet, page, axis, span, device, false);
 }
 
 /// Puts the inspections of a device.
-pub fn put_rings(sheet: &mut Sheet, told: &Told<'_>, axis: &Axis, span: &Span, device: DevNo) {
-    put_all(sheet, told, axis, span, device, true);
+pub fn put_rings(
+    sheet: &mut Sheet,
+    page: &PageContent<'_>,
+    axis: &Axis,
+    span: &Span,
+    device: DevNo,
+) {
+    put_all(sheet, page, axis, span, device, true);
 }
 
 /// The cells above which an amount is written.
@@ -122,14 +134,14 @@ fn is_writable(applied: &Applied, device: DevNo) -> bool {
 
 // The greatest amount for which there is room: the first of these.
 fn greatest<'a>(
-    told: &Told<'a>,
+    page: &PageContent<'a>,
     axis: &Axis,
     span: &Span,
     written: &Written,
     device: DevNo,
 ) -> Option<&'a Applied> {
     let mut found: Option<&'a Applied> = None;
-    for applied in told.facts.cells.applied().iter() {
+    for applied in page.facts.cells.applied().iter() {
         let most = match found {
             Some(other) => other.size,
             None => 0,
@@ -163,13 +175,19 @@ fn put_amount(sheet: &mut Sheet, axis: &Axis, day: i64, applied: &Applied) {
 }
 
 /// Puts the greatest amounts of a device above its picture, where there is room.
-pub fn put_amounts(sheet: &mut Sheet, told: &Told<'_>, axis: &Axis, span: &Span, device: DevNo) {
+pub fn put_amounts(
+    sheet: &mut Sheet,
+    page: &PageContent<'_>,
+    axis: &Axis,
+    span: &Span,
+    device: DevNo,
+) {
     let mut written = Written {
         cells: [NOWHERE; 9],
         count: 0,
     };
     for at in 0..MOST_WRITTEN {
-        let Some(applied) = greatest(told, axis, span, &written, device) else {
+        let Some(applied) = greatest(page, axis, span, &written, device) else {
             return;
         };
         let day = span.within(applied.day);
@@ -198,7 +216,7 @@ fn failure_of(incident: &Incident, device: DevNo) -> Option<&'static str> {
 
 fn put_failure(
     sheet: &mut Sheet,
-    told: &Told<'_>,
+    page: &PageContent<'_>,
     axis: &Axis,
     day: i64,
     incident: &Incident,
@@ -209,7 +227,7 @@ fn put_failure(
     sheet.put_own(" ");
     sheet.put_own(word);
     sheet.put_own(", ");
-    if let Some(name) = told.names.get(incident.place.run) {
+    if let Some(name) = page.names.get(incident.place.run) {
         put_name(sheet, name.as_str());
     }
     sheet.put_own(" line ");
@@ -220,21 +238,21 @@ fn put_failure(
 /// Puts the failures of a device, once in each cell.
 pub fn put_failures(
     sheet: &mut Sheet,
-    told: &Told<'_>,
+    page: &PageContent<'_>,
     axis: &Axis,
     span: &Span,
     device: &DeviceStanding,
 ) {
     let mut last = NOWHERE;
     let mut count = 0usize;
-    for incident in told.incidents.iter() {
+    for incident in page.incidents.iter() {
         let (Some(word), Some(day)) = (failure_of(incident, device.device), incident.day) else {
             continue;
         };
         let day = span.within(day.get());
         let cell = axis.cell(day);
         if cell != last && count < MOST_MARKS {
-            put_failure(sheet, told, axis, day, incident, word);
+            put_failure(sheet, page, axis, day, incident, word);
             last = cell;
             count = count.saturating_add(1);
         }

@@ -15,7 +15,7 @@ pub struct Span {
     pub last: i64,
 }
 
-/// The days of the runs, if a day was told.
+/// The days of the runs, if a day was page.
 pub fn span_of(standing: &Standing) -> Option<Span> {
     let (first, last) = standing.days?;
     let last = i64::from(last.get());

@@ -43,14 +43,14 @@ pub struct Judged {
 
 /// What a judgment says, with the line of the answer that was due.
 #[derive(Drop)]
-struct Told {
+struct Summary {
     outcome: Outcome,
     answers: u32,
     due: Line,
 }
 
 // What the judgment says.
-fn told_by(judgment: &Judgment) -> Told {
+fn summary_of(judgment: &Judgment) -> Summary {
     let mut due = Line::new();
     let outcome = match &judgment.verdict {
         Verdict::Lawful(ending) => Outcome::Lawful(*ending),
@@ -65,7 +65,7 @@ fn told_by(judgment: &Judgment) -> Told {
         Verdict::Memory => Outcome::Memory,
         Verdict::Unread(input, _) => Outcome::Unread(*input),
     };
-    Told {
+    Summary {
         outcome,
         answers: judgment.answers,
         due,
@@ -127,16 +127,23 @@ pub fn judge_over<S: Read + Drop, R: Read + Drop>(
     let report_tail = RefCell::new(Tail::new(alloc)?);
     let mut script = lines_over(alloc, script, &script_tail)?;
     let mut report = lines_over(alloc, report, &report_tail)?;
-    let told = told_by(&judge_next(alloc, auditor, &mut script, &mut report, rates, imprints));
-    let found = found_in(alloc, told.outcome, &mut report, &report_tail)?;
+    let summary = summary_of(&judge_next(
+        alloc,
+        auditor,
+        &mut script,
+        &mut report,
+        rates,
+        imprints,
+    ));
+    let found = found_in(alloc, summary.outcome, &mut report, &report_tail)?;
     let line = last_taken(alloc, &mut script, &script_tail)?;
     Ok(Judged {
-        outcome: told.outcome,
-        ending: ending_of(told.outcome),
-        answers: told.answers,
+        outcome: summary.outcome,
+        ending: ending_of(summary.outcome),
+        answers: summary.answers,
         is_empty: gave_nothing(&report_tail),
         script: shown(alloc, line.as_slice())?,
-        due: shown(alloc, told.due.as_slice())?,
+        due: shown(alloc, summary.due.as_slice())?,
         found: shown(alloc, found.as_slice())?,
     })
 }

@@ -7,7 +7,7 @@ use crate::plan::Plan;
 use crate::runs::Gathered;
 use crate::verdicts::stopped_at;
 use audit_book::Book;
-use audit_facts::{FindingKind, Found, RunFinding, RunState, Standing, Told, line_of};
+use audit_facts::{FindingKind, Found, PageContent, RunFinding, RunState, Standing, line_of};
 use audit_html::page_of;
 use audit_pages::standing_of;
 use audit_recount::{Recount, Run};
@@ -105,7 +105,7 @@ fn write_page(
     standing: &Standing,
     gathered: &Gathered,
 ) -> Result<(), Fault> {
-    let told = Told {
+    let content = PageContent {
         names: plan.names.as_slice(),
         facts: &book.facts,
         standing,
@@ -120,7 +120,7 @@ fn write_page(
         prints: gathered.prints.as_ref(),
         seen: plan.seen.as_deref(),
     };
-    let page = or_memory(page_of(rt.alloc(), &told, &found))?;
+    let page = or_memory(page_of(rt.alloc(), &content, &found))?;
     or_write(io::writer(rt).write_all(page.as_slice()))
 }
 

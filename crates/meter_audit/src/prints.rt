@@ -1,7 +1,7 @@
 //! Whether a file has the prints of all runs, and what is said of it.
 use crate::faults::{Fault, or_memory};
 use crate::files::first_bytes;
-use audit_facts::{PrintsSaid, PrintsState};
+use audit_facts::{PrintsFinding, PrintsState};
 use audit_words::{shown, shown_text};
 use memchr::memchr;
 use std::alloc::{AllocError, Global};
@@ -31,7 +31,7 @@ pub struct Said {
     pub text: String,
     pub is_finding: bool,
     /// The same for a page.
-    pub page: PrintsSaid,
+    pub page: PrintsFinding,
 }
 
 /// The line of a print: the name of its run, as it is shown, and its number there.
@@ -109,7 +109,7 @@ fn page_of(
     imprints: &[Imprint],
     prints: &[u8],
     found: Match,
-) -> PrintsSaid {
+) -> PrintsFinding {
     let (place, bytes) = match found {
         Match::Fit => (imprints.len(), prints.len()),
         Match::Differ(place, bytes) => (place, bytes),
@@ -121,7 +121,7 @@ fn page_of(
         (Match::Differ(_, _), None) => PrintsState::GoOn,
     };
     let (number, _) = line_in(prints, bytes);
-    PrintsSaid {
+    PrintsFinding {
         state,
         file,
         run: run_at(ends, place),

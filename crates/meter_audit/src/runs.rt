@@ -8,7 +8,7 @@ use crate::judging::{Judged, Outcome, judge_over};
 use crate::page::{keep_run, run_finding};
 use crate::plan::{Plan, is_counted, takes_output};
 use crate::verdicts::{FINDING, is_finding, is_undecided, stopped_at, verdict_text};
-use audit_facts::{PrintsSaid, RunFinding};
+use audit_facts::{PrintsFinding, RunFinding};
 use audit_recount::{Recount, Run, put_due};
 use audit_words::{Asked, shown_text};
 use bench_base::numbers::DayNo;
@@ -32,7 +32,7 @@ pub struct Gathered {
     pub is_undecided: bool,
     /// For a page: what was found in a run, and what is said of prints.
     pub finding: Option<RunFinding>,
-    pub prints: Option<PrintsSaid>,
+    pub prints: Option<PrintsFinding>,
 }
 
 impl Gathered {

@@ -35,7 +35,7 @@ type Image<'a> = IoSource<BufReader<Hashed<'a, File>>>;
 
 /// What is said of a storage.
 #[derive(Clone, Copy)]
-enum Told {
+enum StorageFinding {
     Counted,
     Open,
     /// The cell, what it should hold, and what it holds.
@@ -107,17 +107,17 @@ fn look_at(
     path: &str,
     hasher: &RefCell<Sha256>,
     buffer: &mut [u8; MOST_CELL],
-) -> Result<Told, Fault>
+) -> Result<StorageFinding, Fault>
     requires ready { IsReady (audit_of auditor.now) }
 {
     if let Some(fault) = file_fault(rt, path, node)? {
-        return Ok(Told::Unfit(fault));
+        return Ok(StorageFinding::Unfit(fault));
     }
     let mut image = open_storage(rt, path, hasher)?;
     match image_shows(auditor, node, &mut image, buffer) {
-        Ok(Shows::Counted) => Ok(Told::Counted),
-        Ok(Shows::Open) => Ok(Told::Open),
-        Ok(Shows::Other(place)) => Ok(Told::Other(
+        Ok(Shows::Counted) => Ok(StorageFinding::Counted),
+        Ok(Shows::Open) => Ok(StorageFinding::Open),
+        Ok(Shows::Other(place)) => Ok(StorageFinding::Other(
             place,
             due_in(auditor, node, place),
             found_of(node, buffer),
@@ -194,33 +194,37 @@ fn other_text(
 }
 
 // The line of a storage, if it has one.
-fn told_text(
+fn finding_text(
     alloc: Global,
     file: &str,
     node: &Node,
     is_open: bool,
-    told: Told,
+    finding: StorageFinding,
 ) -> Result<Option<String>, AllocError> {
-    let text = match told {
-        Told::Counted if is_open => format!(in alloc; "{file} is without the commit in doubt")?,
-        Told::Counted => return Ok(None),
-        Told::Open => format!(in alloc; "{file} has the commit in doubt")?,
-        Told::Other(place, due, found) => other_text(alloc, file, node, place, due, found)?,
-        Told::Unfit(fault) => file_fault_text(alloc, file, node, fault)?,
+    let text = match finding {
+        StorageFinding::Counted if is_open => format!(in alloc;
+            "{file} is without the commit in doubt"
+        )?,
+        StorageFinding::Counted => return Ok(None),
+        StorageFinding::Open => format!(in alloc; "{file} has the commit in doubt")?,
+        StorageFinding::Other(place, due, found) => other_text(
+            alloc, file, node, place, due, found,
+        )?,
+        StorageFinding::Unfit(fault) => file_fault_text(alloc, file, node, fault)?,
     };
     Ok(Some(text))
 }
 
 // Whether this is a finding.
-fn is_other(told: Told) -> bool {
-    match told {
-        Told::Counted | Told::Open => false,
-        Told::Other(_, _, _) | Told::Unfit(_) => true,
+fn is_other(finding: StorageFinding) -> bool {
+    match finding {
+        StorageFinding::Counted | StorageFinding::Open => false,
+        StorageFinding::Other(_, _, _) | StorageFinding::Unfit(_) => true,
     }
 }
 
 // Compares the storage of the node, and says what is to be said of it: the exit status.
-fn tell_storage(
+fn report_storage(
     rt: &HostRuntime,
     asked: Asked,
     auditor: &Auditor,
@@ -233,12 +237,13 @@ fn tell_storage(
 {
     let file = or_memory(storage_name(rt.alloc(), node))?;
     let path = or_memory(path_in(rt.alloc(), folder, file.as_str()))?;
-    let told = look_at(rt, auditor, node, path.as_str(), hasher, buffer)?;
+    let finding = look_at(rt, auditor, node, path.as_str(), hasher, buffer)?;
     let is_open = auditor.is_open(node);
-    let Some(text) = or_memory(told_text(rt.alloc(), file.as_str(), node, is_open, told))? else {
+    let Some(text) = or_memory(finding_text(rt.alloc(), file.as_str(), node, is_open, finding))?
+    else {
         return Ok(0);
     };
-    if is_other(told) {
+    if is_other(finding) {
         return Ok(say_finding(rt, asked, text.as_str()));
     }
     say(rt, asked, text.as_str())?;
@@ -288,8 +293,8 @@ fn tell_each(
     let mut buffer = [0; MOST_CELL];
     for number in 0..STORAGES {
         let node = node_at(number + 1);
-        let told = tell_storage(rt, asked, auditor, &node, folder, hasher, &mut buffer)?;
-        code = code.max(told);
+        let finding = report_storage(rt, asked, auditor, &node, folder, hasher, &mut buffer)?;
+        code = code.max(finding);
     }
     tell_own_storages(rt, asked, folder, "compared")?;
     Ok(code)

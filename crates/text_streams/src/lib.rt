@@ -8,5 +8,5 @@ mod writing;
 
 pub use ahead::{BufSource, Piece, ReadAhead};
 pub use digits::put_digits;
-pub use reading::{TakeFail, take_text};
+pub use reading::{TakeFail, fill, take_text};
 pub use writing::{print_mark, put_text};

@@ -15,8 +15,10 @@ pub enum TakeFail {
     Fault,
 }
 
-// Reads into the buffer until it is full or the source has ended, and answers how many bytes of it were read.
-fn fill<R: Source>(source: &mut R, buffer: &mut [u8]) -> Result<usize, ReadFail>
+/// Reads into the buffer until it is full or the source has ended, and answers how many bytes of it were read.
+/// ReadFail if the source fails; its count of faults rose then, and what was taken until then is lost.
+pub fn fill<R: Source>(source: &mut R, buffer: &mut [u8]) -> Result<usize, ReadFail>
+    ensures long { length buffer.new ≡ length buffer.old }
     ensures inside { IfOk result (λ count. count ≤ length buffer.new) }
     ensures ok { IfOk result (λ count. TakesUpTo (length buffer.new) (take count buffer.new) (R.left source.old) (R.left source.new)) }
     ensures err { OnErr result (TakesFewer (length buffer.new) (R.left source.old) (R.left source.new)) }

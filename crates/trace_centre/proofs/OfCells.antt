@@ -8,7 +8,6 @@ use Rattle.centre_ledger.specs.declared.{rows.DeviceRow.DeviceRow, rows.Customer
 use Rattle.centre_ledger.specs.declared.rows.Row.TheVariants as row
 use Rattle.centre_ledger.specs.Books.{Books, place_of, ArePlaced, IsDeviceOf, IsCustomerAt}
 use Rattle.centre_ledger.specs.Seen.{Seen, device_in, customer_in, books_in}
-use Rattle.centre_protocol.specs.Payloads.{IsIn}
 use Rattle.trace_centre.specs.Records.{IsRowOf}
 
 if_false : {A : Type 0} (b : Bool) (x y : A) → b ≡ false → (if b then x else y) ≡ y
@@ -62,12 +61,3 @@ books_are s devices customers is is' = ap (λ (l : List (Option DeviceRow)). boo
 pub are_placed : (s : Seen) → ((k : ℕ) → IfSome (row_of (row_at s k)) (IsRowOf k)) → (devices : List (Option DeviceRow)) (customers : List (Option CustomerRow))
     → devices ≡ (books_in s).devices → customers ≡ (books_in s).customers → ArePlaced (books devices customers)
 are_placed s rows devices customers is is' = subst ArePlaced (sym (books_are s devices customers is is')) (books_placed s rows)
-
--- a row that is its cell's own lies in it
-pub own_in : (k : ℕ) (o : Option Row) → IfSome o (IsRowOf k) → IfSome o (IsIn k)
-own_in k None own = tt
-own_in k (Some (row.Device r)) own = (own.0.device, own.1)
-own_in k (Some (row.Customer r)) own = (at_place_of k r.customer own.0.customer own.1, own.1)
-  where
-    at_place_of : (k w : ℕ) → w ≡ k - 7 → 8 ≤ k → w + 7 ≡ k
-    at_place_of k w is inside = omega (arith, is, inside)

@@ -1,28 +1,12 @@
 -- What is left of a source that is read piece by piece, and why an image wasn't read.
-use Rattle.std.proofs.Common.{◌≡◌, inl, inr, ℕ, ◌+◌, ◌*◌, ◌<◌, ◌≤◌, List, [], ◌++◌, length, take, drop, Option, Some, None, Result, Ok, Err, OnErr, sym, ◌∙◌, ap, subst, arith}
-use Rattle.std.proofs.lemmas.List.{length-append, length-take-le, take-append-le}
-use lib.Seq.{take-append-add}
-use borrow.Rule.Slice.PartMut.{put_mid}
-use Rattle.std.proofs.KnownBytes.{Consumes-trans}
+use Rattle.std.proofs.Common.{◌≡◌, inl, inr, ℕ, ◌+◌, ◌*◌, ◌<◌, ◌≤◌, List, [], length, take, Option, Some, None, Result, Ok, Err, OnErr, ◌∙◌, ap, arith}
+use Rattle.std.proofs.lemmas.List.{length-append}
 use Rattle.std.proofs.Math.Nat.{mul-le-mul_right}
 use Rattle.std.specs.Io.KnownBytes.{Consumes, IsAtEnd}
 use Rattle.bench_base.specs.Causes.{Rose}
 use Rattle.trace_folder.specs.Sources.{HasFewer, IsUnread}
 
--- what the prefix of the buffer has after one read more
-take_read : (buffer room : List ℕ) (at k n : ℕ) → at ≤ length buffer → n ≤ length room → take (at + n) (put_mid at k buffer room) ≡ take at buffer ++ take n room
-take_read buffer room at k n inside fits =
-    let prefix : length (take at buffer) ≡ at = length-take-le at buffer inside in
-    ap (λ (i : ℕ). take (i + n) (put_mid at k buffer room)) (sym prefix)
-    ∙ take-append-add (take at buffer) (room ++ drop k (drop at buffer)) n
-    ∙ ap (λ (t : List ℕ). take at buffer ++ t) (take-append-le n room (drop k (drop at buffer)) fits)
-
-pub take_more : (a b c : Option (List ℕ)) (buffer room : List ℕ) (at k n : ℕ) → at ≤ length buffer → n ≤ length room → Consumes a b (take at buffer)
-    → Consumes b c (take n room) → Consumes a c (take (at + n) (put_mid at k buffer room))
-take_more a b c buffer room at k n inside fits first next =
-    subst (Consumes a c) (sym (take_read buffer room at k n inside fits)) (Consumes-trans a b c _ _ first next)
-
--- a source that ends behind these bytes had fewer than so many
+-- a source that ends after these bytes had fewer than so many
 pub ended : (n : ℕ) (a b c : Option (List ℕ)) (front : List ℕ) → Consumes a b front → Consumes b c [] → IsAtEnd c → length front < n → HasFewer n a
 ended n None b c front first next end short = tt
 ended n (Some x) None c front first next end short = absurd first

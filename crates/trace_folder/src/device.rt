@@ -9,7 +9,7 @@ ghost use Rattle.trace_folder.specs.Sources.{IsUnread};
 ghost use Rattle.trace_folder.specs.Walks.{image_of};
 
 use crate::due::Due;
-use crate::filling::fill;
+use crate::filling::fill_whole;
 use crate::shows::{MOST_CELL, Shows};
 use bench_base::numbers::DevNo;
 use bench_base::stream::{ReadFail, Source};
@@ -52,7 +52,7 @@ pub fn device_shows<S: Source>(
     ensures failed { OnErr result (IsUnread DEVICE_BYTES (S.faults image.old) (S.faults image.new) (S.left image.old)) }
 {
     let cell = &mut buffer[..3_424];
-    match fill(image, cell) {
+    match fill_whole(image, cell) {
         Ok(()) => Ok(of_cell(device_cell(traced, device, cell))),
         Err(fail) => Err(fail),
     }

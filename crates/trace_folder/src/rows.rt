@@ -49,7 +49,8 @@ pub fn centre_cell(traced: &Traced<CentreRecord, Row>, place: usize, cell: &[u8]
     requires settled { centre_cells.IsSettled traced.now }
     requires inside { place < 72 }
     requires long { length cell.now ≡ 394 }
-    ensures { CellIs 192 (centre_rows.IsPayloadOf place) (row_at (centre_cells.cells_of traced.now.record) place) (at_place centre.cell_of (λ x. x) place traced.now.open) cell.now result }
+    ensures { CellIs 192 (centre_rows.IsPayloadOf place) (row_at (centre_cells.cells_of traced.now.record) place)
+        (at_place centre.cell_of (λ x. x) place traced.now.open) cell.now result }
 {
     let changed = changed_row(&traced.open, place);
     centre_shown(cell, place, &traced.record.cells()[place], &changed)
@@ -68,7 +69,8 @@ impl Cells for Traced<CentreRecord, Row> {
 
     ghost counted = { λ t place cell. ShowsCell 192 (centre_rows.IsPayloadOf place) (row_at (centre_cells.cells_of t.record) place) cell };
 
-    ghost opened = { λ t place cell. ShowsOpen 192 (centre_rows.IsPayloadOf place) (row_at (centre_cells.cells_of t.record) place) (at_place centre.cell_of (λ x. x) place t.open) cell };
+    ghost opened = { λ t place cell. ShowsOpen 192 (centre_rows.IsPayloadOf place) (row_at (centre_cells.cells_of t.record) place)
+        (at_place centre.cell_of (λ x. x) place t.open) cell };
 
     fn cell_shows(&self, place: usize, cell: &[u8]) -> CellShows {
         centre_cell(self, place, cell)
@@ -121,7 +123,8 @@ pub fn host_cell(traced: &Traced<HostRecord, JobRow>, place: usize, cell: &[u8])
     requires settled { host_cells.IsSettled traced.now }
     requires inside { place < 1024 }
     requires long { length cell.now ≡ 240 }
-    ensures { CellIs 115 (host_rows.IsPayloadOf place) (row_at (host_cells.cells_of traced.now.record) place) (at_place host.cell_of (λ x. x) place traced.now.open) cell.now result }
+    ensures { CellIs 115 (host_rows.IsPayloadOf place) (row_at (host_cells.cells_of traced.now.record) place)
+        (at_place host.cell_of (λ x. x) place traced.now.open) cell.now result }
 {
     let changed = changed_job(&traced.open, place);
     host_shown(cell, place, &traced.record.cells()[place], &changed)
@@ -140,7 +143,8 @@ impl Cells for Traced<HostRecord, JobRow> {
 
     ghost counted = { λ t place cell. ShowsCell 115 (host_rows.IsPayloadOf place) (row_at (host_cells.cells_of t.record) place) cell };
 
-    ghost opened = { λ t place cell. ShowsOpen 115 (host_rows.IsPayloadOf place) (row_at (host_cells.cells_of t.record) place) (at_place host.cell_of (λ x. x) place t.open) cell };
+    ghost opened = { λ t place cell. ShowsOpen 115 (host_rows.IsPayloadOf place) (row_at (host_cells.cells_of t.record) place)
+        (at_place host.cell_of (λ x. x) place t.open) cell };
 
     fn cell_shows(&self, place: usize, cell: &[u8]) -> CellShows {
         host_cell(self, place, cell)

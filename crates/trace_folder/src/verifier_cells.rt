@@ -103,7 +103,8 @@ impl Cells for Traced<ScanRecord, Change> {
 
     ghost counted = { λ t place cell. ShowsCell 2056 (IsPayloadOf place) (row_at (cells_of t.record) place) cell };
 
-    ghost opened = { λ t place cell. ShowsOpen 2056 (IsPayloadOf place) (row_at (cells_of t.record) place) (at_place scans.cell_of (λ x. scans.row_with (cells_of t.record) x) place t.open) cell };
+    ghost opened = { λ t place cell. ShowsOpen 2056 (IsPayloadOf place) (row_at (cells_of t.record) place)
+        (at_place scans.cell_of (λ x. scans.row_with (cells_of t.record) x) place t.open) cell };
 
     fn cell_shows(&self, place: usize, cell: &[u8]) -> CellShows {
         verifier_cell(self, place, cell)

@@ -4,7 +4,7 @@ ghost use Rattle.node_images.specs.Cells.{IsWhat};
 ghost use Rattle.trace_folder.specs.Sources.{IsUnread};
 ghost use Rattle.trace_folder.specs.Walks.{IsReadCell, CellsAre, cell_in};
 
-use crate::filling::fill;
+use crate::filling::fill_whole;
 use crate::shows::{MOST_CELL, Shows};
 use bench_base::stream::{ReadFail, Source};
 use node_images::CellShows;
@@ -53,7 +53,7 @@ fn next_cell<C: Cells, S: Source>(
     ensures failed { OnErr result (IsUnread C.SIZE (S.faults image.old) (S.faults image.new) (S.left image.old)) }
 {
     let cell = &mut buffer[..C::SIZE];
-    fill(image, cell)?;
+    fill_whole(image, cell)?;
     Ok(node.cell_shows(place as usize, cell))
 }
 

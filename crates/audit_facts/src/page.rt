@@ -1,12 +1,12 @@
-//! All that a page shows.
+//! The content of a page: runs, finding and prints.
 use crate::facts::Facts;
 use crate::standing::Standing;
 use audit_tally::{Incident, Job, Pieces, Ungranted};
 use bench_base::numbers::DayNo;
 
-/// What runs of which nothing was found came to.
+/// What a page shows of the runs that have no finding.
 #[derive(Clone, Copy)]
-pub struct Told<'a> {
+pub struct PageContent<'a> {
     /// The names of all runs, also of those that were not judged.
     pub names: &'a [String],
     pub facts: &'a Facts,
@@ -15,11 +15,11 @@ pub struct Told<'a> {
     pub pieces: &'a Pieces,
     pub incidents: &'a [Incident],
     pub ungranted: &'a [Ungranted],
-    /// Of each run the digest up to it.
+    /// For each run, the digest of all runs up to and including it.
     pub digests: &'a [[u8; 32]],
 }
 
-/// What can't be so in a run.
+/// How a run's report differs from what a meter may have answered.
 #[derive(Clone, Copy)]
 pub enum FindingKind {
     Wrong,
@@ -49,9 +49,9 @@ pub enum PrintsState {
     GoOn,
 }
 
-/// What is said of prints.
+/// Whether prints fit, and the first place that differs.
 #[derive(Drop)]
-pub struct PrintsSaid {
+pub struct PrintsFinding {
     pub state: PrintsState,
     pub file: String,
     /// The run and the line of the print, and its line in the file.
@@ -67,7 +67,7 @@ pub struct PrintsSaid {
 #[derive(Clone, Copy)]
 pub struct Found<'a> {
     pub finding: Option<&'a RunFinding>,
-    pub prints: Option<&'a PrintsSaid>,
+    pub prints: Option<&'a PrintsFinding>,
     /// The file of marks that were seen on mail.
     pub seen: Option<&'a str>,
 }
