@@ -16,6 +16,7 @@ ghost use Rattle.trace_bench.specs.Telling.{OfDevice, Counts, Opens, done_by, st
 use crate::auditor::Auditor;
 use bench_abstraction::laws::nodes_follow;
 use bench_abstraction::{BalanceCall, CentreCall, DeviceCall};
+use bench_base::bytes::Note;
 use bench_base::events::{DevView, Reply};
 use bench_base::numbers::{Customer, DayNo, DevNo};
 use bench_base::words::Node;
@@ -161,6 +162,17 @@ impl Auditor {
         ensures { result ≡ length (audit_of self.now).messages }
     {
         self.messages.len()
+    }
+
+    /// The message that was sent last in that run; None if none was sent.
+    pub fn last_message(&self) -> Option<Note>
+        ensures { result ≡ slice_get (audit_of self.now).messages (length (audit_of self.now).messages - 1) }
+    {
+        let count = self.messages.len();
+        if count == 0 {
+            return None;
+        }
+        Some(self.messages[count - 1])
     }
 
     /// Whether the device was made, by the commits that count.

@@ -10,7 +10,7 @@ mod Giving
 mod Left
 mod MadePrinted
 mod Matching
-mod One
+pub mod One
 mod OneVerdict
 mod Opening
 mod Paired

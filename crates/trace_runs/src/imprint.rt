@@ -32,8 +32,8 @@ pub struct Imprint {
     pub given: Given,
 }
 
-// The mark that the event prints where nothing fails; None where it is no `print`.
-pub(crate) fn due_mark(auditor: &Auditor, event: &Event) -> Option<[u8; 64]>
+/// The mark that the event prints where nothing fails; None where it is no `print`.
+pub fn due_mark(auditor: &Auditor, event: &Event) -> Option<[u8; 64]>
     requires whole { IsWholeEvent event.now }
     ensures { IsDueMark (audit_of auditor.now) event.now result }
 {
@@ -43,8 +43,8 @@ pub(crate) fn due_mark(auditor: &Auditor, event: &Event) -> Option<[u8; 64]>
     mark_due(auditor, *job)
 }
 
-// What the printer was given in an event that prints this mark where nothing fails, and has this line.
-pub(crate) fn given_in(event: &Event, due: Option<[u8; 64]>, line: &[u8]) -> Option<Given>
+/// What the printer was given in an event that prints this mark where nothing fails, and has this line.
+pub fn given_in(event: &Event, due: Option<[u8; 64]>, line: &[u8]) -> Option<Given>
     ensures { GivesSo event.now due line.now result }
 {
     let Event::Print(job) = event else {
@@ -99,12 +99,8 @@ pub(crate) fn open_in(event: &Event, due: Option<[u8; 64]>, prefix: &[u8]) -> Op
     })
 }
 
-// Adds it after the others, if the printer was given something.
-pub(crate) fn keep(
-    imprints: &mut Vec<Imprint>,
-    line: u32,
-    given: Option<Given>,
-) -> Result<(), AllocError>
+/// Adds it after the others, if the printer was given something.
+pub fn keep(imprints: &mut Vec<Imprint>, line: u32, given: Option<Given>) -> Result<(), AllocError>
     ensures ok { OnOk result (imprints.new.items ≡ imprints.old.items ++ imprint_at line given) }
     ensures err { OnErr result (imprints.new.items ≡ imprints.old.items) }
 {
