@@ -1,0 +1,6 @@
+pub mod Asked
+pub mod Compared
+pub mod Lined
+pub mod Messages
+pub mod Ran
+pub mod Translated

@@ -1,0 +1,42 @@
+use Rattle.std.proofs.Common.{◌≡◌, List, ℕ, Result, Ok, Err, take, refl, subst}
+use Rattle.std.specs.Prelude.{IfOk}
+use Rattle.bench_base.specs.declared.events.Event.{Event}
+use Rattle.bench_base.specs.Events.{IsWholeEvent}
+use Rattle.script_text.specs.Grammar.{Spells}
+use Rattle.script_words.specs.declared.word.LineFault.{LineFault}
+use Rattle.line_extensions.specs.Events.{IsLineOf}
+use Rattle.trace_bench.specs.Seeing.{audit_of}
+use Rattle.trace_extensions.specs.Rates.{left_of}
+use Rattle.trace_extensions.proofs.Lined.{skipped, ends, answered, heard}
+use Rattle.trace_extensions.proofs.handler.AtReportLineHandler.do_line.Goals as goal
+
+read_as : (line : List ℕ) (r : Result Event LineFault) (e : Event) → r ≡ Ok e → IfOk r (λ e. IsWholeEvent e × Spells e line) → IsLineOf e line
+read_as line (Ok x) e is found = let same : x ≡ e = cc in subst (λ (y : Event). IsLineOf y line) same (record { whole = found.0; spells = found.1 })
+read_as line (Err fault) e is found = absurd (cc is)
+
+pub returns-then-is_skipped-clause-done : goal.returns-then-is_skipped-clause-done
+returns-then-is_skipped-clause-done g c = skipped g.D.Extension c.args.number c.args.line.now _ (g.K.Sink.taken c.args._report.now) (c.is_skipped.ensures.0 c.if-is_skipped.true)
+
+pub returns-in-Err-clause-done : goal.returns-in-Err-clause-done
+returns-in-Err-clause-done g c = ends g.D.Extension c.args.number c.args.line.now _ _ (g.K.Sink.taken c.args._report.now) refl
+
+pub returns-then-own_line-clause-done : goal.returns-then-own_line-clause-done
+returns-then-own_line-clause-done g c =
+    let w = rw c.in-Ok-Some.field-0-is at c.in-Ok-Some.ensures.own in
+    answered g.D.Extension c.args.number c.args.line.now (audit_of c.args.auditor.now) (audit_of c.own_line.new.auditor) (left_of c.args.rates.now) (left_of c.own_line.new.rates) c.args.desk.now
+    c.begin-begun.new.self c.own_line.new.desk _ _ (g.K.Sink.taken c.args._report.now) w.0 c.in-Ok-Some.first c.own_line.ensures.kept w.1 w.2 (c.own_line.ensures.asked c.if-own_line.true)
+    (c.own_line.ensures.fits c.if-own_line.true)
+
+pub returns-else-own_line-clause-done : goal.returns-else-own_line-clause-done
+returns-else-own_line-clause-done g c = ends g.D.Extension c.args.number c.args.line.now _ _ (g.K.Sink.taken c.args._report.now) c.own_line.ensures.kept
+
+pub returns-in-Some-clause-done : goal.returns-in-Some-clause-done
+returns-in-Some-clause-done g c =
+    let w = rw c.in-Ok-None.field-0-is at c.in-Ok-None.ensures.passes in
+    heard g.D.Extension c.args.number c.args.line.now (audit_of c.args.auditor.now) (audit_of c.answer.new.auditor) (left_of c.args.rates.now) (left_of c.answer.new.rates) c.args.desk.now
+    c.begin-begun.new.self _ _ (g.K.Sink.taken c.args._report.now) c.in-Ok.event (take c.in-Some.field-0 c.answer.new.buf) c.ended_by.result c.answer.ensures.kept
+    (read_as c.args.line.now c.read_event.result c.in-Ok.event c.in-Ok.is c.read_event.ensures.found) w.0 w.2 g.met.D.TracedExtension.unmoved c.in-Some.ensures.heard.0 c.in-Some.ensures.heard.1
+    c.ended_by.ensures.goes_on c.ended_by.ensures.done
+
+pub returns-in-None-clause-done : goal.returns-in-None-clause-done
+returns-in-None-clause-done g c = ends g.D.Extension c.args.number c.args.line.now _ _ (g.K.Sink.taken c.args._report.now) c.answer.ensures.kept

@@ -1,0 +1,10 @@
+-- Promised: public contracts name these.
+pub mod Places
+pub mod Rates
+pub mod Sides
+pub mod Takes
+-- Private calls and proofs alone name these.
+pub mod AuditLaws
+pub mod Messages
+pub mod Steps
+pub mod Worlds

@@ -1,0 +1,101 @@
+//! The answer of an extension beside the lines of the report.
+ghost use Rattle.std.specs.Prelude.{◌≡◌, ◌++◌, ◌≤◌, ℕ, List, true, flat_map, length, take};
+ghost use Rattle.std.specs.Io.KnownBytes.{Consumes};
+ghost use Rattle.line_runs.specs.Lines.{ended};
+
+use crate::papers::{Papers, SideVerdict};
+use bench_base::stream::Source;
+use line_extensions::Extension;
+use line_runs::lines::{LineRead, read_line};
+use script_text::Line;
+use text_streams::ReadAhead;
+use trace_runs::Input;
+
+// How a line of the report compares with a text.
+#[derive(Clone, Copy, PartialEq, Eq)]
+enum Compared {
+    Same,
+    Other,
+    /// The report ends within it.
+    Open,
+    Fault,
+}
+
+// Reads a line of the report, and compares it with this text.
+fn compare_next<R: Source>(papers: &mut Papers<R>, text: &[u8]) -> Compared
+    ensures same { result ≡ Compared.Same → Consumes (⟦<ReadAhead<R> as Source>⟧.left papers.old.report)
+        (⟦<ReadAhead<R> as Source>⟧.left papers.new.report) (ended text.now) }
+{
+    let mut buf = [0; 600];
+    match read_line(&mut papers.report, &mut buf) {
+        LineRead::Line(len, true) => {
+            papers.answers = papers.answers.saturating_add(1);
+            if &buf[..len as usize] == text {
+                Compared::Same
+            } else {
+                Compared::Other
+            }
+        }
+        LineRead::Line(_, false) | LineRead::End => Compared::Open,
+        LineRead::Long => Compared::Other,
+        LineRead::Fault => Compared::Fault,
+    }
+}
+
+// Ends the audit if a line of the report is not the text that is due: whether it is.
+fn is_same<R: Source>(number: u32, papers: &mut Papers<R>, text: Line, compared: Compared) -> bool
+    ensures same { result ≡ true → compared ≡ Compared.Same }
+    ensures report { papers.new.report ≡ papers.old.report }
+{
+    match compared {
+        Compared::Same => return true,
+        Compared::Other => {
+            papers.due = text;
+            papers.end(SideVerdict::Wrong(number));
+        }
+        Compared::Open => papers.end(SideVerdict::StoppedInOwn(number)),
+        Compared::Fault => papers.end(SideVerdict::Unread(Input::Report)),
+    }
+    false
+}
+
+// Compares the texts of the extension's answer after the first with the lines of the report: whether they are the same.
+fn rest_fits<D: Extension, R: Source>(number: u32, desk: &D, papers: &mut Papers<R>) -> bool
+    requires some { 1 ≤ length (D.texts desk.now) }
+    ensures fits { result ≡ true → (rest : List ℕ) × (flat_map ended (D.texts desk.now) ≡ flat_map ended (take 1 (D.texts desk.now)) ++ rest)
+        × Consumes (⟦<ReadAhead<R> as Source>⟧.left papers.old.report) (⟦<ReadAhead<R> as Source>⟧.left papers.new.report) rest }
+{
+    for at in 1..desk.count() {
+        let mut text = Line::new();
+        desk.put(at, &mut text);
+        let compared = compare_next(papers, text.as_slice());
+        if !is_same(number, papers, text, compared) {
+            return false;
+        }
+    }
+    true
+}
+
+// Compares the extension's answer with this line, which was read of the report, and those after it: whether they are the same.
+pub(crate) fn answer_fits<D: Extension, R: Source>(
+    number: u32,
+    desk: &D,
+    first: &[u8],
+    papers: &mut Papers<R>,
+) -> bool
+    ensures fits { result ≡ true → (rest : List ℕ) × (flat_map ended (D.texts desk.now) ≡ ended first.now ++ rest)
+        × Consumes (⟦<ReadAhead<R> as Source>⟧.left papers.old.report) (⟦<ReadAhead<R> as Source>⟧.left papers.new.report) rest }
+{
+    if desk.count() == 0 {
+        papers.end(SideVerdict::Wrong(number));
+        return false;
+    }
+    let mut text = Line::new();
+    desk.put(0, &mut text);
+    if text.as_slice() != first {
+        papers.due = text;
+        papers.end(SideVerdict::Wrong(number));
+        return false;
+    }
+    rest_fits(number, desk, papers)
+}

@@ -1,0 +1,189 @@
+//! The lines of a script beside those of its report: events of the bench, or an extension's own.
+ghost use Rattle.std.specs.Prelude.{◌≡◌, ◌+◌, ◌++◌, ◌<◌, ◌≤◌, ℕ, List, true, length, flat_map, None};
+ghost use Rattle.std.specs.Io.KnownBytes.{Consumes};
+ghost use Rattle.bench.specs.declared.benches.TheConstants.{MOST_MESSAGES};
+ghost use Rattle.line_extensions.specs.Desks.{world};
+ghost use Rattle.line_extensions.specs.declared.extension.Next.{Next as TheNext};
+ghost use Rattle.line_runs.specs.Lines.{ended};
+ghost use Rattle.trace_extensions.specs.Places.{place};
+ghost use Rattle.trace_extensions.specs.Takes.{AtEachSeen};
+ghost use Rattle.bench_base.specs.Events.{IsWholeEvent};
+ghost use Rattle.trace_bench.specs.Seeing.{IsReady, audit_of, keeps};
+ghost use Rattle.trace_extensions.specs.Rates.{left_of};
+ghost use Rattle.trace_extensions.specs.Steps.{AuditStep, audit_lines};
+ghost use Rattle.trace_extensions.specs.Worlds.{AuditWorld, audit_world, AskedSo, AuditLeaves, DidAudit};
+ghost use Rattle.trace_extensions.specs.AuditLaws.{audit_done, audit_fits};
+ghost use Rattle.line_extensions.specs.Wants.{MayAsk};
+ghost use Rattle.line_runs.specs.Turns.{LineEnd};
+
+use crate::asking::ask_all;
+use crate::comparing::answer_fits;
+use crate::extension::TracedExtension;
+use crate::papers::{Papers, SideVerdict};
+use crate::plain::{answer, miss};
+use crate::rates::RatesLeft;
+use bench_base::events::Event;
+use bench_base::stream::{Sink, Source};
+use line_extensions::{Extension, Next, ended_by};
+use line_runs::LineHandler;
+use line_runs::lines::{LineRead, read_line};
+use line_runs::status::{SideStatus, Status};
+use script_text::{is_skipped, read_event};
+use std::alloc::Global;
+use std::marker::PhantomData;
+use text_streams::ReadAhead;
+use trace_bench::Auditor;
+use trace_runs::Input;
+
+/// Judges the lines of a script that are events of a bench, or an extension's own.
+pub struct AtReport<R, D> {
+    of: PhantomData<(R, D)>,
+}
+
+// Takes the steps of an own line of this number, by what the report has for it, and compares the answer: whether it is the same.
+fn own_fits<R: Source, D: TracedExtension>(
+    alloc: Global,
+    number: u32,
+    first: Next,
+    answer: &[u8],
+    desk: &mut D,
+    auditor: &mut Auditor,
+    rates: &mut RatesLeft,
+    papers: &mut Papers<R>,
+) -> bool
+    requires may { MayAsk first (D.left desk.old) }
+    requires ready { IsReady (audit_of auditor.old) }
+    requires few { length (audit_of auditor.old).messages < MOST_MESSAGES }
+    ensures ready { IsReady (audit_of auditor.new) }
+    ensures few { length (audit_of auditor.new).messages ≤ length (audit_of auditor.old).messages + 1 }
+    ensures kept { keeps (audit_of auditor.new) ≡ keeps (audit_of auditor.old) }
+    ensures asked { result ≡ true → AtEachSeen (audit_of auditor.old) (λ τ H. AskedSo ⟦<D as Extension>⟧ τ
+        (world (place H (left_of rates.old)) desk.old) (audit_world (audit_of auditor.new) (left_of rates.new) desk.new None) first TheNext.Say) }
+    ensures fits { result ≡ true → (rest : List ℕ) × (flat_map ended (D.texts desk.new) ≡ ended answer.now ++ rest)
+        × Consumes (⟦<ReadAhead<R> as Source>⟧.left papers.old.report) (⟦<ReadAhead<R> as Source>⟧.left papers.new.report) rest }
+{
+    match ask_all(alloc, auditor, rates, desk, first, answer) {
+        Err(why) => {
+            miss(papers, number, why);
+            false
+        }
+        Ok(Next::Say) => answer_fits(number, desk, answer, papers),
+        Ok(Next::Stop | Next::Step(_)) => {
+            papers.end(SideVerdict::Memory);
+            false
+        }
+    }
+}
+
+// Reads the first line that the report has for an own line of this number, and judges the answer: whether the run goes on.
+fn own_line<R: Source, D: TracedExtension>(
+    alloc: Global,
+    number: u32,
+    first: Next,
+    desk: &mut D,
+    auditor: &mut Auditor,
+    rates: &mut RatesLeft,
+    papers: &mut Papers<R>,
+) -> bool
+    requires may { MayAsk first (D.left desk.old) }
+    requires ready { IsReady (audit_of auditor.old) }
+    requires few { length (audit_of auditor.old).messages < MOST_MESSAGES }
+    ensures ready { IsReady (audit_of auditor.new) }
+    ensures few { length (audit_of auditor.new).messages ≤ length (audit_of auditor.old).messages + 1 }
+    ensures kept { keeps (audit_of auditor.new) ≡ keeps (audit_of auditor.old) }
+    ensures asked { result ≡ true → AtEachSeen (audit_of auditor.old) (λ τ H. AskedSo ⟦<D as Extension>⟧ τ
+        (world (place H (left_of rates.old)) desk.old) (audit_world (audit_of auditor.new) (left_of rates.new) desk.new None) first TheNext.Say) }
+    ensures fits { result ≡ true → Consumes (⟦<ReadAhead<R> as Source>⟧.left papers.old.report) (⟦<ReadAhead<R> as Source>⟧.left papers.new.report)
+        (flat_map ended (D.texts desk.new)) }
+{
+    let mut buf = [0; 600];
+    match read_line(&mut papers.report, &mut buf) {
+        LineRead::Line(len, true) => {
+            papers.answers = papers.answers.saturating_add(1);
+            return own_fits(
+                alloc,
+                number,
+                first,
+                &buf[..len as usize],
+                desk,
+                auditor,
+                rates,
+                papers,
+            );
+        }
+        LineRead::Line(_, false) | LineRead::End => papers.end(SideVerdict::StoppedInOwn(number)),
+        LineRead::Long => papers.end(SideVerdict::Wrong(number)),
+        LineRead::Fault => papers.end(SideVerdict::Unread(Input::Report)),
+    }
+    false
+}
+
+impl<R: Source, D: TracedExtension> LineHandler for AtReport<R, D> {
+    type Extension = D;
+
+    type Bench = Auditor;
+
+    type Rates = RatesLeft;
+
+    type Printer = Papers<R>;
+
+    ghost World = { AuditWorld D };
+
+    ghost world = { λ desk auditor rates papers. audit_world (audit_of auditor) (left_of rates) desk (⟦<ReadAhead<R> as Source>⟧.left papers.report) };
+
+    ghost IsReady = { λ w. IsReady w.audit };
+
+    ghost used = { λ w. length w.audit.messages };
+
+    ghost TraceStep = { AuditStep D.Own };
+
+    ghost lines = { audit_lines ⟦<D as Extension>⟧ };
+
+    ghost Does = { DidAudit ⟦<D as Extension>⟧ };
+
+    ghost Leaves = { AuditLeaves };
+
+    ghost chain = { audit_done ⟦<D as Extension>⟧ };
+
+    ghost fits = { audit_fits ⟦<D as Extension>⟧ D.alone };
+
+    fn do_line<K: Sink>(
+        alloc: Global,
+        number: u32,
+        line: &[u8],
+        desk: &mut D,
+        auditor: &mut Auditor,
+        rates: &mut RatesLeft,
+        papers: &mut Papers<R>,
+        _report: &mut K,
+    ) -> Option<SideStatus> {
+        papers.line = number;
+        if is_skipped(line) {
+            return None;
+        }
+        let begun = desk.begin(alloc, line);
+        match begun {
+            Err(_) => {
+                papers.end(SideVerdict::Memory);
+                Some(SideStatus::Stopped)
+            }
+            Ok(Some(first)) => {
+                if own_line(alloc, number, first, desk, auditor, rates, papers) {
+                    None
+                } else {
+                    Some(SideStatus::Stopped)
+                }
+            }
+            Ok(None) => match &read_event(line) {
+                Ok(event) => {
+                    let mut buf = [0; 600];
+                    match answer(alloc, auditor, rates, papers, number, event, &mut buf) {
+                        Some(_) => ended_by(event),
+                        None => Some(SideStatus::Stopped),
+                    }
+                }
+                Err(_) => Some(SideStatus::Run(Status::Script(number))),
+            },
+        }
+    }
+}

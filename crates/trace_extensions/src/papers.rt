@@ -1,0 +1,69 @@
+//! What an audit reads beside the script of a run, and what it finds.
+ghost use Rattle.std.specs.Prelude.{◌≡◌};
+
+use bench_base::stream::Source;
+use script_text::Line;
+use text_streams::ReadAhead;
+use trace_runs::{Ending, Imprint, Input};
+
+/// What an audit says of a run with lines of its own. Numbers are those of lines of the script, counted from 1.
+#[derive(Clone, Copy)]
+pub enum SideVerdict {
+    /// Each line may have got the answer that the report has for it, and the report ends as the script does.
+    Lawful(Ending),
+    /// So far as for `Lawful`; but the report ends before the line end of the answer to this line, which is that of an event.
+    Stopped(u32),
+    /// The same, of an own line. What was done for it is not known, so no later run is judged.
+    StoppedInOwn(u32),
+    /// The report has another answer to this line than those that it may get.
+    Wrong(u32),
+    /// The event of this line, or a step of an own line, has forged bytes.
+    Forged(u32),
+    /// It has bytes, and the auditor does not keep what was sent and released.
+    Unkept(u32),
+    /// The script ends so at this line, and the report goes on after that.
+    More(u32, Ending),
+    /// There was no memory.
+    Memory,
+    /// This failed to be read.
+    Unread(Input),
+}
+
+/// The report of a run, and what was found in it.
+#[derive(Drop)]
+pub struct Papers<R: Source> {
+    pub report: ReadAhead<R>,
+    /// What the printer was given, of all runs so far.
+    pub imprints: Vec<Imprint>,
+    /// The line of the script that was judged last, counted from 1.
+    pub line: u32,
+    /// How many lines of the report were read.
+    pub answers: u32,
+    /// What is said if the audit ends before the script does.
+    pub verdict: SideVerdict,
+    /// The answer that was due there.
+    pub due: Line,
+}
+
+impl<R: Source> Papers<R> {
+    /// Of a report of which nothing was read.
+    pub fn new(report: ReadAhead<R>, imprints: Vec<Imprint>) -> Papers<R>
+        ensures { result.report ≡ report }
+    {
+        Papers {
+            report,
+            imprints,
+            line: 0,
+            answers: 0,
+            verdict: SideVerdict::Memory,
+            due: Line::new(),
+        }
+    }
+
+    // Ends the audit with this verdict.
+    pub(crate) fn end(&mut self, verdict: SideVerdict)
+        ensures { self.new.report ≡ self.old.report }
+    {
+        self.verdict = verdict;
+    }
+}

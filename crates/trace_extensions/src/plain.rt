@@ -1,0 +1,157 @@
+//! The line of an event that the extension leaves to the bench.
+ghost use Rattle.std.specs.Prelude.{◌≡◌, ◌+◌, ◌<◌, ◌≤◌, true, length, take, IfSome};
+ghost use Rattle.std.specs.Io.KnownBytes.{Consumes};
+ghost use Rattle.bench_base.specs.Events.{IsWholeEvent};
+ghost use Rattle.bench.specs.declared.benches.TheConstants.{MOST_MESSAGES};
+ghost use Rattle.line_runs.specs.Lines.{ended};
+ghost use Rattle.trace_bench.specs.Seeing.{IsReady, audit_of, keeps};
+ghost use Rattle.trace_extensions.specs.Rates.{left_of};
+ghost use Rattle.trace_extensions.specs.Takes.{TakesLine};
+
+use crate::papers::{Papers, SideVerdict};
+use crate::rates::RatesLeft;
+use crate::taking::{Miss, admit, take};
+use bench_base::events::Event;
+use bench_base::stream::Source;
+use line_runs::lines::{LineRead, read_line};
+use script_text::write_reply;
+use std::alloc::Global;
+use text_streams::ReadAhead;
+use trace_bench::{Auditor, Finding, stop};
+use trace_runs::Input;
+use trace_runs::imprint::{due_mark, given_in, keep};
+
+impl Miss {
+    // What is said of the line of this number.
+    fn verdict(&self, number: u32) -> SideVerdict {
+        match self {
+            Miss::Wrong(_) => SideVerdict::Wrong(number),
+            Miss::Forged => SideVerdict::Forged(number),
+            Miss::Unkept => SideVerdict::Unkept(number),
+            Miss::Memory => SideVerdict::Memory,
+        }
+    }
+}
+
+// Ends the audit at the line of this number, since its answer is not taken.
+pub(crate) fn miss<R: Source>(papers: &mut Papers<R>, number: u32, miss: Miss)
+    ensures { papers.new.report ≡ papers.old.report }
+{
+    if let Miss::Wrong(due) = &miss {
+        papers.due = write_reply(due);
+    }
+    papers.end(miss.verdict(number));
+}
+
+// Ends the audit at the event of the line of this number, where the report ends with these bytes.
+fn stopped<R: Source>(
+    alloc: Global,
+    auditor: &mut Auditor,
+    rates: &RatesLeft,
+    papers: &mut Papers<R>,
+    number: u32,
+    event: &Event,
+    prefix: &[u8],
+)
+    requires whole { IsWholeEvent event.now }
+    requires ready { IsReady (audit_of auditor.old) }
+    requires few { length (audit_of auditor.old).messages < MOST_MESSAGES }
+    ensures ready { IsReady (audit_of auditor.new) }
+    ensures few { length (audit_of auditor.new).messages ≤ length (audit_of auditor.old).messages + 1 }
+    ensures kept { keeps (audit_of auditor.new) ≡ keeps (audit_of auditor.old) }
+    ensures report { papers.new.report ≡ papers.old.report }
+{
+    if let Err(why) = admit(alloc, auditor, event) {
+        return miss(papers, number, why);
+    }
+    match stop(alloc, auditor, event, rates.left(), prefix) {
+        Ok(_) => papers.end(SideVerdict::Stopped(number)),
+        Err(Finding::Wrong(due)) => miss(papers, number, Miss::Wrong(due)),
+        Err(Finding::Memory) => papers.end(SideVerdict::Memory),
+    }
+}
+
+// Takes this line of the report for the answer to the event of the line of this number: whether it was taken.
+fn heard<R: Source>(
+    alloc: Global,
+    auditor: &mut Auditor,
+    rates: &mut RatesLeft,
+    papers: &mut Papers<R>,
+    number: u32,
+    event: &Event,
+    line: &[u8],
+) -> bool
+    requires whole { IsWholeEvent event.now }
+    requires ready { IsReady (audit_of auditor.old) }
+    requires few { length (audit_of auditor.old).messages < MOST_MESSAGES }
+    ensures ready { IsReady (audit_of auditor.new) }
+    ensures few { length (audit_of auditor.new).messages ≤ length (audit_of auditor.old).messages + 1 }
+    ensures kept { keeps (audit_of auditor.new) ≡ keeps (audit_of auditor.old) }
+    ensures report { papers.new.report ≡ papers.old.report }
+    ensures takes { result ≡ true → TakesLine event.now line.now (audit_of auditor.old) (audit_of auditor.new) (left_of rates.old) (left_of rates.new) }
+{
+    let given = given_in(event, due_mark(auditor, event), line);
+    if let Err(why) = take(alloc, auditor, rates, event, line) {
+        miss(papers, number, why);
+        return false;
+    }
+    papers.answers = papers.answers.saturating_add(1);
+    if keep(&mut papers.imprints, number, given).is_err() {
+        papers.end(SideVerdict::Memory);
+        return false;
+    }
+    true
+}
+
+// Reads the answer that the report has for the event of the line of this number into the buffer, and takes it: how long it is. None if the audit ends.
+pub(crate) fn answer<R: Source>(
+    alloc: Global,
+    auditor: &mut Auditor,
+    rates: &mut RatesLeft,
+    papers: &mut Papers<R>,
+    number: u32,
+    event: &Event,
+    buf: &mut [u8; 600],
+) -> Option<u16>
+    requires whole { IsWholeEvent event.now }
+    requires ready { IsReady (audit_of auditor.old) }
+    requires few { length (audit_of auditor.old).messages < MOST_MESSAGES }
+    ensures ready { IsReady (audit_of auditor.new) }
+    ensures few { length (audit_of auditor.new).messages ≤ length (audit_of auditor.old).messages + 1 }
+    ensures kept { keeps (audit_of auditor.new) ≡ keeps (audit_of auditor.old) }
+    ensures heard { IfSome result (λ len. TakesLine event.now (take len buf.new) (audit_of auditor.old) (audit_of auditor.new) (left_of rates.old)
+        (left_of rates.new)
+        × Consumes (⟦<ReadAhead<R> as Source>⟧.left papers.old.report) (⟦<ReadAhead<R> as Source>⟧.left papers.new.report) (ended (take len buf.new))) }
+{
+    match read_line(&mut papers.report, buf) {
+        LineRead::Line(len, true) => {
+            if heard(
+                alloc,
+                auditor,
+                rates,
+                papers,
+                number,
+                event,
+                &buf[..len as usize],
+            ) {
+                return Some(len);
+            }
+            return None;
+        }
+        LineRead::Line(len, false) => {
+            stopped(
+                alloc,
+                auditor,
+                rates,
+                papers,
+                number,
+                event,
+                &buf[..len as usize],
+            );
+        }
+        LineRead::End => stopped(alloc, auditor, rates, papers, number, event, &[]),
+        LineRead::Long => stopped(alloc, auditor, rates, papers, number, event, &buf[..]),
+        LineRead::Fault => papers.end(SideVerdict::Unread(Input::Report)),
+    }
+    None
+}

@@ -1,0 +1,88 @@
+//! The audit of one run with an extension.
+ghost use Rattle.std.specs.Prelude.{◌≡◌, ◌≢◌, []};
+ghost use Rattle.std.specs.Io.KnownBytes.{Consumes, IsAtEnd};
+ghost use Rattle.trace_bench.specs.Seeing.{IsReady, audit_of, keeps};
+ghost use Rattle.trace_extensions.specs.Rates.{left_of};
+ghost use Rattle.trace_extensions.specs.Sides.{MayHaveRun};
+ghost use Rattle.trace_extensions.specs.declared.papers.SideVerdict.{SideVerdict as Verdict};
+ghost use Rattle.trace_runs.specs.Verdicts.{status_of};
+ghost use Rattle.trace_runs.specs.declared.verdict.Ending.{Ending as TheEnding};
+
+use crate::extension::TracedExtension;
+use crate::handler::AtReport;
+use crate::papers::{Papers, SideVerdict};
+use crate::rates::RatesLeft;
+use bench_base::memory::MemSink;
+use bench_base::stream::Source;
+use line_extensions::Extension;
+use line_runs::lines::{LineRead, read_line};
+use line_runs::run_lines;
+use line_runs::status::{SideStatus, Status};
+use std::alloc::Global;
+use text_streams::ReadAhead;
+use trace_bench::Auditor;
+use trace_runs::{Ending, Input};
+
+// What is said of a run with a script that ends so, by what is left of the report.
+fn over<R: Source>(papers: &mut Papers<R>, end: Ending) -> SideVerdict
+    ensures lawful { (e : TheEnding) → result ≡ Verdict.Lawful e → (e ≡ end) × IsAtEnd (⟦<ReadAhead<R> as Source>⟧.left papers.new.report)
+        × Consumes (⟦<ReadAhead<R> as Source>⟧.left papers.old.report) (⟦<ReadAhead<R> as Source>⟧.left papers.new.report) [] }
+{
+    let mut buf = [0; 600];
+    match read_line(&mut papers.report, &mut buf) {
+        LineRead::End => SideVerdict::Lawful(end),
+        LineRead::Line(_, _) | LineRead::Long => SideVerdict::More(papers.line, end),
+        LineRead::Fault => SideVerdict::Unread(Input::Report),
+    }
+}
+
+// The verdict of an audit that ended before its script: it is never lawful.
+fn unlawful(verdict: SideVerdict) -> SideVerdict
+    ensures { (e : TheEnding) → result ≢ Verdict.Lawful e }
+{
+    match verdict {
+        SideVerdict::Lawful(_) => SideVerdict::Memory,
+        other => other,
+    }
+}
+
+/// Judges a run with an extension, over what the auditor has of the runs before and what the extension has.
+///
+/// If it is lawful, a bench and the extension may have written this report, from whatever history the auditor had, and the auditor sees what they leave.
+/// No clause says that a run that may have been so is found lawful.
+pub fn judge_side<S: Source, R: Source, D: TracedExtension>(
+    alloc: Global,
+    auditor: &mut Auditor,
+    desk: &mut D,
+    script: &mut ReadAhead<S>,
+    rates: Vec<u8>,
+    papers: &mut Papers<R>,
+) -> SideVerdict
+    requires ready { IsReady (audit_of auditor.old) }
+    ensures ready { IsReady (audit_of auditor.new) }
+    ensures kept { keeps (audit_of auditor.new) ≡ keeps (audit_of auditor.old) }
+    ensures sound { (end : TheEnding) → result ≡ Verdict.Lawful end → MayHaveRun ⟦<D as Extension>⟧ (status_of end)
+        (⟦<ReadAhead<S> as Source>⟧.left script.old) (⟦<ReadAhead<S> as Source>⟧.left script.new)
+        (⟦<ReadAhead<R> as Source>⟧.left papers.old.report) (⟦<ReadAhead<R> as Source>⟧.left papers.new.report)
+        rates.items desk.old desk.new (audit_of auditor.old) (audit_of auditor.new) }
+{
+    auditor.begin();
+    let mut left = RatesLeft::new(rates);
+    let mut nothing = MemSink::new(Vec::new(alloc), Vec::new(alloc), Vec::new(alloc));
+    match run_lines::<AtReport<R, D>, ReadAhead<S>, MemSink>(
+        alloc,
+        script,
+        desk,
+        auditor,
+        &mut left,
+        papers,
+        &mut nothing,
+    ) {
+        SideStatus::Run(Status::Done) => over(papers, Ending::Done),
+        SideStatus::Run(Status::Script(line)) => over(papers, Ending::Script(line)),
+        SideStatus::Run(Status::TooLong) => over(papers, Ending::TooLong),
+        SideStatus::Run(Status::ReadFault) => SideVerdict::Unread(Input::Script),
+        SideStatus::Run(Status::Words | Status::WriteFault | Status::Memory) => SideVerdict::Memory,
+        SideStatus::Stopped => unlawful(papers.verdict),
+    }
+}
