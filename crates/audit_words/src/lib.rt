@@ -5,6 +5,6 @@ mod reading;
 mod showing;
 mod usage;
 
-pub use reading::{Asked, Call, Words, WordsFault, read_call};
+pub use reading::{Asked, Call, NamedWord, Words, WordsFault, read_call};
 pub use showing::{shown, shown_text};
 pub use usage::{HELP, VERSION};

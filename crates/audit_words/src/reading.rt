@@ -20,6 +20,14 @@ pub enum Asked {
     Due,
 }
 
+/// A run, and the word that it is said to be a run of.
+#[derive(Drop)]
+pub struct NamedWord {
+    /// The run, without the ending of its script.
+    pub name: String,
+    pub word: String,
+}
+
 /// What the words of an audit ask for.
 #[derive(Drop)]
 pub struct Words {
@@ -38,6 +46,8 @@ pub struct Words {
     pub asked: Asked,
     /// Whether what is undecided at the end counts as decided.
     pub is_lenient: bool,
+    /// The words of single runs, in place of those that are kept beside them.
+    pub run_words: Vec<NamedWord>,
     /// The runs that are named, each without the ending of its script.
     pub names: Vec<String>,
 }
@@ -73,6 +83,9 @@ enum Operand {
     Seen,
     Storages,
     Start,
+    /// The run whose word follows.
+    Run,
+    RunWord,
 }
 
 /// What was read so far.
@@ -82,6 +95,8 @@ struct Reader {
     words: Words,
     /// What the next word is for, if the last one asks for it.
     wanted: Option<Operand>,
+    /// The run whose word is the next one.
+    run: Option<String>,
 }
 
 // What the word asks to be printed, if it is such an option.
@@ -107,6 +122,7 @@ fn operand_of(word: &str) -> Option<Operand> {
         "--seen" => Some(Operand::Seen),
         "--folder" => Some(Operand::Storages),
         "--from" => Some(Operand::Start),
+        "--word" => Some(Operand::Run),
         _ => None,
     }
 }
@@ -145,7 +161,39 @@ fn without_ending(alloc: Global, word: String) -> Result<String, WordsFault> {
     }
 }
 
+// Whether the word of this run was given before.
+fn has_run(run_words: &[NamedWord], name: &str) -> bool {
+    for at in 0..run_words.len() {
+        if run_words[at].name.as_str() == name {
+            return true;
+        }
+    }
+    false
+}
+
 impl Reader {
+    // Takes the run whose word follows.
+    fn take_run(&mut self, word: String) -> Result<(), WordsFault> {
+        let name = without_ending(self.alloc, word)?;
+        if has_run(self.words.run_words.as_slice(), name.as_str()) {
+            return Err(WordsFault::Usage);
+        }
+        self.run = Some(name);
+        self.wanted = Some(Operand::RunWord);
+        Ok(())
+    }
+
+    // Takes the word of the run that was named.
+    fn take_run_word(&mut self, word: String) -> Result<(), WordsFault> {
+        let Some(name) = self.run.take() else {
+            return Err(WordsFault::Usage);
+        };
+        match self.words.run_words.push(NamedWord { name, word }) {
+            Ok(()) => Ok(()),
+            Err(_) => Err(WordsFault::Memory),
+        }
+    }
+
     // Takes the word that an option asked for.
     fn take_operand(&mut self, operand: Operand, word: String) -> Result<(), WordsFault> {
         if is_option(word.as_str()) {
@@ -158,6 +206,8 @@ impl Reader {
             Operand::Seen => fill(&mut self.words.seen, word),
             Operand::Storages => fill(&mut self.words.storages, word),
             Operand::Start => fill(&mut self.words.start, word),
+            Operand::Run => self.take_run(word),
+            Operand::RunWord => self.take_run_word(word),
         }
     }
 
@@ -230,9 +280,11 @@ fn read_audit(alloc: Global, words: Vec<String>) -> Result<Words, WordsFault> {
             start: None,
             asked: Asked::Nothing,
             is_lenient: false,
+            run_words: Vec::new(alloc),
             names: Vec::new(alloc),
         },
         wanted: None,
+        run: None,
     };
     for word in words {
         reader.take(word)?;
@@ -283,9 +335,10 @@ fn read_check(words: Vec<String>) -> Result<String, WordsFault>
 }
 
 /// What the words after the program's name call for. Options may be in any order, also after names; `--help` and `--version` take precedence over
-/// all others. WordsFault::Usage if a word that begins with `--` is no option, or if an option lacks its file or is given twice. WordsFault::Usage
-/// also if more than one thing is asked for beside the verdicts, if no run is named, or if a script to be looked at is not alone. WordsFault::Start if
-/// `--from` goes with a page, a journal or marks that were seen. WordsFault::Memory is lack of memory.
+/// all others. WordsFault::Usage if a word that begins with `--` is no option, or if an option lacks its file or is given twice. `--word` is
+/// followed by a run and a word, and may be given once a run. WordsFault::Usage also if more than one thing is asked for beside the verdicts, if no run
+/// is named, or if a script to be looked at is not alone. WordsFault::Start if `--from` goes with a page, a journal or marks that were seen.
+/// WordsFault::Memory is lack of memory.
 pub fn read_call(alloc: Global, words: Vec<String>) -> Result<Call, WordsFault>
     ensures { Reads (map string_bytes words.items) result }
 {

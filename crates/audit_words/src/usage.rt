@@ -8,8 +8,9 @@ pub const HELP: &str = "usage: meter_audit [OPTION ..] [--runs DIR] NAME ..
        meter_audit --check SCRIPT
 
 Says of each run, in order, whether its report may be that of a lawful meter, up to the first finding. A run is NAME.script,
-NAME.report and NAME.rates, which is empty if it is missing. Give all runs of a folder, from the first one on; with
---from, all that came after those storages.
+NAME.report and NAME.rates, which is empty if it is missing. NAME.word has its word: replay, which it is if that file is
+missing, claims, departments or manifest. Give all runs of a folder, from the first one on; with --from, all that came
+after those storages.
 --check says what is wrong with the lines of a script.
 
 options, in any order
@@ -19,6 +20,7 @@ options, in any order
   --seen FILE      whether these runs debited each mark of FILE, a line of 128 hexadecimal digits each
   --folder DIR     whether the storages of DIR show what these runs left
   --from DIR       begin with the storages of DIR, in place of blank ones
+  --word NAME WORD the word of the run NAME, in place of what NAME.word has; may be given once a run
   --lenient        status 0 in place of 4
   --help           these lines
   --version        the version

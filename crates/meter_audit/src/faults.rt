@@ -23,6 +23,20 @@ pub enum Fault {
     Changed(String),
     #[error("cannot judge {0}: its event has bytes, and what was sent before the storages of --from is not known")]
     Unknown(String),
+    #[error("cannot judge {0}: runs of {1} are not judged")]
+    Unjudged(String, String),
+    #[error("cannot judge {0}: its word is {1}, which is no word of a run")]
+    NoWord(String, String),
+    #[error("cannot judge {0}: --word names it, and no such run is given")]
+    NoRun(String),
+    #[error("cannot judge {0}: a run of claims goes with no --from, which does not read claims.nv")]
+    FromClaims(String),
+    #[error("cannot judge {0}: a run of departments goes with no --from, which does not read departments.nv")]
+    FromDepartments(String),
+    #[error("cannot judge {0}: --page, --html, --csv, --json, --ledger and --due are for runs of replay alone")]
+    ReplayAlone(String),
+    #[error("cannot go on behind {0}: it was stopped at a line of its own, and what was done for that is not known")]
+    OwnStop(String),
     #[error("{0} was not stopped, so no answer is due")]
     Unstopped(String),
     #[error("cannot write standard output")]
@@ -45,6 +59,13 @@ pub fn code_of(fault: &Fault) -> u8 {
         | Fault::InUse(_)
         | Fault::Changed(_)
         | Fault::Unknown(_)
+        | Fault::Unjudged(_, _)
+        | Fault::NoWord(_, _)
+        | Fault::NoRun(_)
+        | Fault::FromClaims(_)
+        | Fault::FromDepartments(_)
+        | Fault::ReplayAlone(_)
+        | Fault::OwnStop(_)
         | Fault::Unstopped(_)
         | Fault::Write
         | Fault::Counted => 2,

@@ -1,4 +1,4 @@
-//! The files of runs: NAME.script, NAME.report and NAME.rates, which is empty where it is missing, as the meter takes it.
+//! The files of runs: NAME.script, NAME.report, NAME.rates, which is empty where it is missing, as the meter takes it, and NAME.word.
 use crate::faults::{Fault, or_memory};
 use audit_recount::Run;
 use audit_words::shown_text;
@@ -7,6 +7,9 @@ use std::io::{self, Read};
 
 /// The most bytes that a file of rates may have: as many as 16 `rates` of a run can take, 65,537 each.
 const MOST_RATES: u64 = 1_048_592;
+
+/// How many bytes of a file with the word of a run are read: more than any word has.
+const MOST_WORD: u64 = 64;
 
 // The text with another after it.
 fn joined(rt: &HostRuntime, prefix: &str, back: &str) -> Result<String, Fault> {
@@ -169,6 +172,16 @@ pub fn rates_of(rt: &HostRuntime, name: &str, shared: &Option<Vec<u8>>) -> Resul
     match shared {
         Some(rates) => or_memory(rates.clone()),
         None => own_rates(rt, name),
+    }
+}
+
+/// The first bytes of NAME.word; None if there is no such file.
+pub fn word_bytes(rt: &HostRuntime, name: &str) -> Result<Option<Vec<u8>>, Fault> {
+    let file = joined(rt, name, ".word")?;
+    match File::open(rt, file.as_str()) {
+        Ok(opened) => Ok(Some(first_bytes(rt, file.as_str(), opened, MOST_WORD)?)),
+        Err(error) if error.kind() == io::ErrorKind::NotFound => Ok(None),
+        Err(error) => Err(fault_at(rt, file.as_str(), &error)),
     }
 }
 

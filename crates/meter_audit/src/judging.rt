@@ -8,7 +8,9 @@ use script_text::{Line, put_reply};
 use std::alloc::{AllocError, Global};
 use std::cell::RefCell;
 use std::io::Read;
+use std::mem;
 use trace_bench::Auditor;
+use trace_extensions::{Papers, SideVerdict, TracedExtension, judge_side};
 use trace_runs::{Ending, Imprint, Input, Judgment, Verdict, judge_next, read_line};
 
 /// What came of a run. Numbers are those of lines of its script.
@@ -16,6 +18,8 @@ use trace_runs::{Ending, Imprint, Input, Judgment, Verdict, judge_next, read_lin
 pub enum Outcome {
     Lawful(Ending),
     Stopped(u32),
+    /// Stopped at a line of its own: what was done for it is not known.
+    StoppedInOwn(u32),
     Wrong(u32),
     Forged(u32),
     /// An event contains bytes, and what was sent and released is not kept.
@@ -72,11 +76,32 @@ fn summary_of(judgment: &Judgment) -> Summary {
     }
 }
 
+// What the verdict on a run with lines of its own says, with the line of the answer that was due.
+fn side_summary(verdict: SideVerdict, answers: u32, due: Line) -> Summary {
+    let outcome = match verdict {
+        SideVerdict::Lawful(ending) => Outcome::Lawful(ending),
+        SideVerdict::Stopped(line) => Outcome::Stopped(line),
+        SideVerdict::StoppedInOwn(line) => Outcome::StoppedInOwn(line),
+        SideVerdict::Wrong(line) => Outcome::Wrong(line),
+        SideVerdict::Forged(line) => Outcome::Forged(line),
+        SideVerdict::Unkept(line) => Outcome::Unkept(line),
+        SideVerdict::More(line, ending) => Outcome::More(line, ending),
+        SideVerdict::Memory => Outcome::Memory,
+        SideVerdict::Unread(input) => Outcome::Unread(input),
+    };
+    Summary {
+        outcome,
+        answers,
+        due,
+    }
+}
+
 // How the script ended, if it did.
 fn ending_of(outcome: Outcome) -> Ending {
     match outcome {
         Outcome::Lawful(ending) | Outcome::More(_, ending) => ending,
         Outcome::Stopped(_)
+        | Outcome::StoppedInOwn(_)
         | Outcome::Wrong(_)
         | Outcome::Forged(_)
         | Outcome::Unkept(_)
@@ -110,6 +135,25 @@ fn gave_nothing(tail: &RefCell<Tail>) -> bool {
     }
 }
 
+// What is said of a run, with the line of its script that was judged last and what its report has there.
+fn judged_so(
+    alloc: Global,
+    summary: &Summary,
+    is_empty: bool,
+    line: &[u8],
+    found: &[u8],
+) -> Result<Judged, AllocError> {
+    Ok(Judged {
+        outcome: summary.outcome,
+        ending: ending_of(summary.outcome),
+        answers: summary.answers,
+        is_empty,
+        script: shown(alloc, line)?,
+        due: shown(alloc, summary.due.as_slice())?,
+        found: shown(alloc, found)?,
+    })
+}
+
 /// Judges the next run over what the auditor has of the runs before, by what these read. Each is read once: the imprints are added to those of the
 /// runs before. AllocError is lack of memory beside that of the verdict.
 pub fn judge_over<S: Read + Drop, R: Read + Drop>(
@@ -137,13 +181,52 @@ pub fn judge_over<S: Read + Drop, R: Read + Drop>(
     ));
     let found = found_in(alloc, summary.outcome, &mut report, &report_tail)?;
     let line = last_taken(alloc, &mut script, &script_tail)?;
-    Ok(Judged {
-        outcome: summary.outcome,
-        ending: ending_of(summary.outcome),
-        answers: summary.answers,
-        is_empty: gave_nothing(&report_tail),
-        script: shown(alloc, line.as_slice())?,
-        due: shown(alloc, summary.due.as_slice())?,
-        found: shown(alloc, found.as_slice())?,
-    })
+    judged_so(
+        alloc,
+        &summary,
+        gave_nothing(&report_tail),
+        line.as_slice(),
+        found.as_slice(),
+    )
+}
+
+/// Judges the next run, which has lines of its own, beside the desk whose lines they are. Otherwise as `judge_over`.
+pub fn judge_beside<S: Read + Drop, R: Read + Drop, D: TracedExtension>(
+    alloc: Global,
+    auditor: &mut Auditor,
+    desk: &mut D,
+    script: S,
+    report: R,
+    rates: Vec<u8>,
+    imprints: &mut Vec<Imprint>,
+) -> Result<Judged, AllocError>
+    requires ready { IsReady (audit_of auditor.old) }
+    ensures ready { IsReady (audit_of auditor.new) }
+{
+    let script_tail = RefCell::new(Tail::new(alloc)?);
+    let report_tail = RefCell::new(Tail::new(alloc)?);
+    let mut script = lines_over(alloc, script, &script_tail)?;
+    let report = lines_over(alloc, report, &report_tail)?;
+    let mut papers = Papers::new(report, mem::replace(imprints, Vec::new(alloc)));
+    let verdict = judge_side(alloc, auditor, desk, &mut script, rates, &mut papers);
+    let Papers {
+        report,
+        imprints: given,
+        line: _,
+        answers,
+        verdict: _,
+        due,
+    } = papers;
+    *imprints = given;
+    let mut report = report;
+    let summary = side_summary(verdict, answers, due);
+    let found = last_taken(alloc, &mut report, &report_tail)?;
+    let line = last_taken(alloc, &mut script, &script_tail)?;
+    judged_so(
+        alloc,
+        &summary,
+        gave_nothing(&report_tail),
+        line.as_slice(),
+        found.as_slice(),
+    )
 }

@@ -22,6 +22,7 @@ mod storage_files;
 mod storages;
 mod tails;
 mod verdicts;
+mod words;
 
 ghost use Rattle.trace_bench.specs.Seeing.{IsReady, audit_of};
 
@@ -34,7 +35,7 @@ use faults::{Fault, code_of, or_book, or_memory, or_write};
 use page::tell_html;
 use plan::{Plan, plan_of};
 use prints::{Said, judge_prints};
-use runs::{Gathered, judge_all, say, say_finding};
+use runs::{Gathered, judge_all, say, say_finding, want_known};
 use seen::{SeenFile, read_seen, tell_seen};
 use starting::{halted, starts_of};
 use std::process::ExitCode;
@@ -194,6 +195,9 @@ fn judge_words(
     }
     let prints_code = tell_prints(rt, &mut plan, &mut gathered)?;
     let marks_code = tell_marks(rt, &plan, auditor, seen)?;
+    if plan.storages.is_some() || plan.asked == Asked::Table {
+        want_known(rt, &plan, &gathered, plan.names.len())?;
+    }
     let storages_code = tell_storages(rt, plan.asked, auditor, &plan.storages)?;
     if prints_code != 0 || marks_code != 0 || storages_code != 0 {
         return Ok(tell_found(rt, &plan, clerk, &gathered));
@@ -258,7 +262,7 @@ fn audit_over(
 // Judges what the words name, from blank storages on.
 fn audit_from_blank(rt: &HostRuntime, words: Words) -> Result<u8, Fault> {
     let asked = words.asked;
-    let planned = plan_of(rt, words);
+    let planned = plan_of(rt, words, false);
     let is_kept = has_bytes(&planned);
     let Ok(auditor) = Auditor::new(rt.alloc(), is_kept) else {
         return Err(Fault::Memory);
@@ -274,7 +278,7 @@ fn audit_from(rt: &HostRuntime, folder: &str, words: Words) -> Result<u8, Fault>
     let asked = words.asked;
     match starts_of(rt, asked, folder) {
         Ok(starts) => {
-            let planned = plan_of(rt, words);
+            let planned = plan_of(rt, words, true);
             audit_over(rt, asked, planned, starts.auditor, starts.second)
         }
         Err(halt) => halted(rt, asked, halt),

@@ -62,6 +62,7 @@ fn kind_of(judged: &Judged) -> Option<(FindingKind, u32)> {
         Outcome::More(line, _) => Some((FindingKind::More, line)),
         Outcome::Lawful(_)
         | Outcome::Stopped(_)
+        | Outcome::StoppedInOwn(_)
         | Outcome::Unkept(_)
         | Outcome::Unread(_)
         | Outcome::Memory => None,

@@ -5,12 +5,15 @@ use crate::folders::runs_in;
 use crate::held::{HeldFolder, hold};
 use crate::prints::PrintsFile;
 use crate::scripts::may_bring_bytes;
-use audit_words::{Asked, Words};
+use crate::words::{Word, have_own_lines, want_judged, words_of};
+use audit_words::{Asked, NamedWord, Words};
 
 /// What is judged, and what is printed beside the verdicts.
 #[derive(Drop)]
 pub struct Plan {
     pub names: Vec<String>,
+    /// The word of each run, in its place.
+    pub words: Vec<Word>,
     pub asked: Asked,
     pub is_lenient: bool,
     /// The rates of every run; None if each has its own.
@@ -21,7 +24,7 @@ pub struct Plan {
     pub seen: Option<String>,
     /// The folder whose storages are compared, which is held.
     pub storages: Option<HeldFolder>,
-    /// Whether a script may have a `give` or a `scan N hex`: what runs send and release is then kept.
+    /// Whether a script may have a `give`, a `scan N hex` or a line of its own: what runs send and release is then kept.
     pub has_bytes: bool,
 }
 
@@ -89,8 +92,23 @@ fn hold_storages(rt: &HostRuntime, folder: Option<String>) -> Result<Option<Held
     Ok(Some(hold(rt, folder)?))
 }
 
-/// What these words come to. Each file that is that of every run is opened before the first run is judged.
-pub fn plan_of(rt: &HostRuntime, words: Words) -> Result<Plan, Fault> {
+// The words of these runs, each of which goes with what is asked for.
+fn judged_words(
+    rt: &HostRuntime,
+    names: &[String],
+    run_words: &[NamedWord],
+    asked: Asked,
+    has_start: bool,
+) -> Result<Vec<Word>, Fault> {
+    let words = words_of(rt, run_words, names)?;
+    for place in 0..names.len().min(words.len()) {
+        want_judged(rt, names[place].as_str(), words[place], asked, has_start)?;
+    }
+    Ok(words)
+}
+
+/// What these words come to, with a start from storages or from blank ones. Each file that is that of every run is opened before the first run is judged.
+pub fn plan_of(rt: &HostRuntime, words: Words, has_start: bool) -> Result<Plan, Fault> {
     let Words {
         folder,
         rates,
@@ -100,15 +118,18 @@ pub fn plan_of(rt: &HostRuntime, words: Words) -> Result<Plan, Fault> {
         start: _,
         asked,
         is_lenient,
+        run_words,
         names,
     } = words;
     let names = all_runs(rt, &folder, names)?;
+    let words = judged_words(rt, names.as_slice(), run_words.as_slice(), asked, has_start)?;
     let rates = shared_rates(rt, &rates, names.len())?;
     let printed = open_prints(rt, prints)?;
     let storages = hold_storages(rt, storages)?;
-    let has_bytes = may_bring_bytes(rt, names.as_slice());
+    let has_bytes = have_own_lines(words.as_slice()) || may_bring_bytes(rt, names.as_slice());
     Ok(Plan {
         names,
+        words,
         asked,
         is_lenient,
         rates,

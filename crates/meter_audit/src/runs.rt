@@ -4,18 +4,23 @@ ghost use Rattle.trace_bench.specs.Seeing.{IsReady, audit_of};
 use crate::digest::{NO_RUNS, Sum, digest_with};
 use crate::faults::{Fault, or_book, or_memory, or_write};
 use crate::files::{changed, open_of, rates_of, unknown, unusable_of, whole_run};
-use crate::judging::{Judged, Outcome, judge_over};
+use crate::judging::{Judged, Outcome, judge_beside, judge_over};
 use crate::page::{keep_run, run_finding};
 use crate::plan::{Plan, is_counted, takes_output};
-use crate::verdicts::{FINDING, is_finding, is_undecided, stopped_at, verdict_text};
+use crate::verdicts::{FINDING, is_finding, is_own_stop, is_undecided, stopped_at, verdict_text};
+use crate::words::Word;
 use audit_facts::{PrintsFinding, RunFinding};
 use audit_recount::{Recount, Run, put_due};
 use audit_words::{Asked, shown_text};
 use bench_base::numbers::DayNo;
 use bench_base::stream::IoSink;
 use std::alloc::Global;
+use std::fs::File;
 use std::io;
 use trace_bench::Auditor;
+use trace_extensions::{
+    AuditedClaims, AuditedDepartments, blank_claims, blank_departments, no_manifest,
+};
 use trace_runs::{Imprint, Input};
 
 /// What was gathered over the runs.
@@ -33,6 +38,12 @@ pub struct Gathered {
     /// For a page: what was found in a run, and what is said of prints.
     pub finding: Option<RunFinding>,
     pub prints: Option<PrintsFinding>,
+    /// The claims that the runs so far left; None before the first run of claims.
+    pub claims: Option<AuditedClaims>,
+    /// The same of departments.
+    pub departments: Option<AuditedDepartments>,
+    /// Whether the last run was stopped at a line of its own: what that left is not known.
+    pub is_own_stop: bool,
 }
 
 impl Gathered {
@@ -46,6 +57,9 @@ impl Gathered {
             is_undecided: false,
             finding: None,
             prints: None,
+            claims: None,
+            departments: None,
+            is_own_stop: false,
         }
     }
 }
@@ -78,6 +92,7 @@ fn tell(rt: &HostRuntime, plan: &Plan, name: &str, judged: &Judged) -> Result<u8
         Outcome::Unread(Input::Report) => return Err(unusable_of(rt, name, ".report")),
         Outcome::Lawful(_)
         | Outcome::Stopped(_)
+        | Outcome::StoppedInOwn(_)
         | Outcome::Wrong(_)
         | Outcome::Forged(_)
         | Outcome::More(_, _) => {}
@@ -91,13 +106,133 @@ fn tell(rt: &HostRuntime, plan: &Plan, name: &str, judged: &Judged) -> Result<u8
     Ok(0)
 }
 
+// The claims that the runs so far left. There are none before the first run of claims.
+fn claims_in(alloc: Global, claims: &mut Option<AuditedClaims>) -> Option<&mut AuditedClaims> {
+    if claims.is_none() {
+        *claims = blank_claims(alloc);
+    }
+    claims.as_mut()
+}
+
+// The departments that the runs so far left. There are none before the first run of departments.
+fn departments_in(
+    alloc: Global,
+    departments: &mut Option<AuditedDepartments>,
+) -> Option<&mut AuditedDepartments> {
+    if departments.is_none() {
+        *departments = blank_departments(alloc);
+    }
+    departments.as_mut()
+}
+
+// Judges a run of claims by its open files, beside the claims so far.
+fn judge_claims(
+    alloc: Global,
+    auditor: &mut Auditor,
+    script: File,
+    report: File,
+    rates: Vec<u8>,
+    gathered: &mut Gathered,
+) -> Result<Judged, Fault>
+    requires ready { IsReady (audit_of auditor.old) }
+    ensures ready { IsReady (audit_of auditor.new) }
+{
+    let Some(claims) = claims_in(alloc, &mut gathered.claims) else {
+        return Err(Fault::Memory);
+    };
+    let imprints = &mut gathered.imprints;
+    or_memory(judge_beside(alloc, auditor, claims, script, report, rates, imprints))
+}
+
+// Judges a run of departments, beside the departments so far.
+fn judge_departments(
+    alloc: Global,
+    auditor: &mut Auditor,
+    script: File,
+    report: File,
+    rates: Vec<u8>,
+    gathered: &mut Gathered,
+) -> Result<Judged, Fault>
+    requires ready { IsReady (audit_of auditor.old) }
+    ensures ready { IsReady (audit_of auditor.new) }
+{
+    let Some(departments) = departments_in(alloc, &mut gathered.departments) else {
+        return Err(Fault::Memory);
+    };
+    let imprints = &mut gathered.imprints;
+    or_memory(judge_beside(alloc, auditor, departments, script, report, rates, imprints))
+}
+
+// Judges a run of a manifest, beside none.
+fn judge_manifest(
+    alloc: Global,
+    auditor: &mut Auditor,
+    script: File,
+    report: File,
+    rates: Vec<u8>,
+    gathered: &mut Gathered,
+) -> Result<Judged, Fault>
+    requires ready { IsReady (audit_of auditor.old) }
+    ensures ready { IsReady (audit_of auditor.new) }
+{
+    let mut checker = no_manifest();
+    let imprints = &mut gathered.imprints;
+    or_memory(judge_beside(
+        alloc,
+        auditor,
+        &mut checker,
+        script,
+        report,
+        rates,
+        imprints,
+    ))
+}
+
+// Judges a run of events alone.
+fn judge_events(
+    alloc: Global,
+    auditor: &mut Auditor,
+    script: File,
+    report: File,
+    rates: Vec<u8>,
+    gathered: &mut Gathered,
+) -> Result<Judged, Fault>
+    requires ready { IsReady (audit_of auditor.old) }
+    ensures ready { IsReady (audit_of auditor.new) }
+{
+    let imprints = &mut gathered.imprints;
+    or_memory(judge_over(alloc, auditor, script, report, rates.as_slice(), imprints))
+}
+
+// Judges a run of this word by its open files.
+fn judge_opened(
+    alloc: Global,
+    auditor: &mut Auditor,
+    word: Word,
+    script: File,
+    report: File,
+    rates: Vec<u8>,
+    gathered: &mut Gathered,
+) -> Result<Judged, Fault>
+    requires ready { IsReady (audit_of auditor.old) }
+    ensures ready { IsReady (audit_of auditor.new) }
+{
+    match word {
+        Word::Replay => judge_events(alloc, auditor, script, report, rates, gathered),
+        Word::Claims => judge_claims(alloc, auditor, script, report, rates, gathered),
+        Word::Departments => judge_departments(alloc, auditor, script, report, rates, gathered),
+        Word::Manifest => judge_manifest(alloc, auditor, script, report, rates, gathered),
+    }
+}
+
 // Judges a run by its files, which are read once, line by line. Its rates are those of every run, if there are such.
 fn judge_files(
     rt: &HostRuntime,
     auditor: &mut Auditor,
     name: &str,
+    word: Word,
     shared: &Option<Vec<u8>>,
-    imprints: &mut Vec<Imprint>,
+    gathered: &mut Gathered,
 ) -> Result<Judged, Fault>
     requires ready { IsReady (audit_of auditor.old) }
     ensures ready { IsReady (audit_of auditor.new) }
@@ -105,14 +240,7 @@ fn judge_files(
     let script = open_of(rt, name, ".script")?;
     let report = open_of(rt, name, ".report")?;
     let rates = rates_of(rt, name, shared)?;
-    or_memory(judge_over(
-        rt.alloc(),
-        auditor,
-        script,
-        report,
-        rates.as_slice(),
-        imprints,
-    ))
+    judge_opened(rt.alloc(), auditor, word, script, report, rates, gathered)
 }
 
 // Judges a run that is whole in memory.
@@ -192,6 +320,7 @@ impl Gathered {
     fn gather(&mut self, judged: &Judged, day: Option<DayNo>) -> Result<(), Fault> {
         self.day = day.or(self.day);
         self.is_undecided = self.is_undecided || is_undecided(judged);
+        self.is_own_stop = is_own_stop(judged);
         or_memory(self.ends.push(self.imprints.len()))
     }
 
@@ -211,6 +340,7 @@ fn judge_next(
     gathered: &mut Gathered,
     place: usize,
     name: &str,
+    word: Word,
 ) -> Result<u8, Fault>
     requires ready { IsReady (audit_of auditor.old) }
     requires ready_clerk { IsReady (audit_of clerk.old.auditor) }
@@ -218,7 +348,7 @@ fn judge_next(
     ensures ready_clerk { IsReady (audit_of clerk.new.auditor) }
 {
     if !is_counted(plan.asked) {
-        let judged = judge_files(rt, auditor, name, &plan.rates, &mut gathered.imprints)?;
+        let judged = judge_files(rt, auditor, name, word, &plan.rates, gathered)?;
         gathered.gather(&judged, auditor.day())?;
         return tell(rt, plan, name, &judged);
     }
@@ -238,6 +368,20 @@ fn judge_next(
     Ok(0)
 }
 
+/// Refuses what follows so many runs, if the last of them was stopped at a line of its own.
+pub fn want_known(
+    rt: &HostRuntime,
+    plan: &Plan,
+    gathered: &Gathered,
+    count: usize,
+) -> Result<(), Fault> {
+    if !gathered.is_own_stop || count == 0 || count > plan.names.len() {
+        return Ok(());
+    }
+    let name = plan.names[count - 1].as_str();
+    Err(Fault::OwnStop(or_memory(shown_text(rt.alloc(), name))?))
+}
+
 /// Judges the runs in order, up to the first finding: the exit status.
 pub fn judge_all(
     rt: &HostRuntime,
@@ -251,9 +395,11 @@ pub fn judge_all(
     ensures ready { IsReady (audit_of auditor.new) }
     ensures ready_clerk { IsReady (audit_of clerk.new.auditor) }
 {
-    for place in 0..plan.names.len() {
+    for place in 0..plan.names.len().min(plan.words.len()) {
         let name = plan.names[place].as_str();
-        let code = judge_next(rt, plan, auditor, clerk, gathered, place, name)?;
+        want_known(rt, plan, gathered, place)?;
+        let word = plan.words[place];
+        let code = judge_next(rt, plan, auditor, clerk, gathered, place, name, word)?;
         if code != 0 {
             return Ok(code);
         }

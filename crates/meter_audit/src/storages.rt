@@ -27,7 +27,7 @@ use trace_folder::{
 /// How much of a storage is read at once, in bytes.
 const BLOCK: usize = 65_536;
 
-/// The storages that belong to no node: they are not compared or read, since no run with lines of its own is judged.
+/// The storages that belong to no node: they are not compared or read, and what an audit has of claims is not compared with them.
 const OWN_STORAGES: [&str; 2] = ["claims.nv", "departments.nv"];
 
 /// A storage that is read.

@@ -12,14 +12,33 @@ pub fn is_finding(judged: &Judged) -> bool {
         Outcome::Wrong(_) | Outcome::Forged(_) | Outcome::More(_, _) => true,
         Outcome::Lawful(_)
         | Outcome::Stopped(_)
+        | Outcome::StoppedInOwn(_)
         | Outcome::Unkept(_)
         | Outcome::Unread(_)
         | Outcome::Memory => false,
     }
 }
 
-/// Whether a run without a finding leaves something undecided: its script has no end, or its report has nothing.
+/// Whether the run was stopped at a line of its own.
+pub fn is_own_stop(judged: &Judged) -> bool {
+    match judged.outcome {
+        Outcome::StoppedInOwn(_) => true,
+        Outcome::Lawful(_)
+        | Outcome::Stopped(_)
+        | Outcome::Wrong(_)
+        | Outcome::Forged(_)
+        | Outcome::Unkept(_)
+        | Outcome::More(_, _)
+        | Outcome::Unread(_)
+        | Outcome::Memory => false,
+    }
+}
+
+/// Whether a run without a finding leaves something undecided: its script has no end, its report has nothing, or it was stopped at a line of its own.
 pub fn is_undecided(judged: &Judged) -> bool {
+    if is_own_stop(judged) {
+        return true;
+    }
     match judged.ending {
         Ending::Script(_) | Ending::TooLong => true,
         Ending::Done => judged.is_empty,
@@ -29,7 +48,7 @@ pub fn is_undecided(judged: &Judged) -> bool {
 /// The line of the script with the missing answer, if the run was stopped.
 pub fn stopped_at(judged: &Judged) -> Option<u32> {
     match judged.outcome {
-        Outcome::Stopped(line) => Some(line),
+        Outcome::Stopped(line) | Outcome::StoppedInOwn(line) => Some(line),
         Outcome::Lawful(_)
         | Outcome::Wrong(_)
         | Outcome::Forged(_)
@@ -84,6 +103,9 @@ pub fn verdict_text(alloc: Global, name: &str, judged: &Judged) -> Result<String
         Outcome::Lawful(_) => lawful_text(alloc, name, judged),
         Outcome::Stopped(line) => {
             format!(in alloc; "stopped {name} before the answer to line {line}")
+        }
+        Outcome::StoppedInOwn(line) => {
+            format!(in alloc; "stopped {name} before the answer to line {line}, a line of its own")
         }
         Outcome::Wrong(line) => {
             format!(in alloc; "wrong {name} line {line}\nscript {script}\ndue {due}\nfound {found}")
