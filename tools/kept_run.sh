@@ -7,6 +7,8 @@
 folder=$(pwd -P)
 notes=${POST_NOTES:-$folder.notes}
 meter=                  # its process, while it runs
+meter_word=replay       # its word, which the run needs
+statement=              # the customer whose statement is open, or will be
 nodes=                  # the nodes that are on
 unclean=                # the earlier runs without a noted end
 all_on=                 # whether they are, and something may be done
@@ -16,6 +18,7 @@ came_on=
 
 # --- The kept runs and the notes ---
 
+word_of() { cat "runs/$1.word" 2> /dev/null || echo replay; }
 kept() { ls runs 2> /dev/null | sed -n 's/^\([0-9]\{6\}-.*\)\.script$/\1/p'; }
 noted() { sed -n "s/^$1 //p" "$notes"; }
 
@@ -36,10 +39,13 @@ $others}"
 left_by() {
     set -- "$notes"
     for left in $unclean; do
+        set -- "$@" "word=$(word_of "$left")"
         for file in "runs/$left.script" "runs/$left.report"; do set -- "$@" "lines=$(wc -l < "$file")" "$file"; done
     done
     awk -f "$top/tools/left.awk" "$@"
 }
+# What all kept runs were told: the facts of tools/told.awk.
+told_by() { awk -f "$top/tools/told.awk" $(kept | sed 's|.*|runs/&.script runs/&.report|'); }
 
 # --- How a call ends ---
 
@@ -59,6 +65,7 @@ give_up() {
 # Ends a run in which nothing is left: the commits are noted before `end` is given.
 finish() {
     counts=
+    [ -z "$statement" ] || close_statement
     for node in $nodes; do
         ask "off $node"
         surely "on $node"
@@ -96,20 +103,27 @@ lost() { cut_off "$run cannot be kept, and nothing more is done: make room, or l
 ended() {
     exec 3>&-
     wait "$meter"
-    told=$(grep -v 'not proved' <&6)
-    if [ ! -s "$run.report" ] && [ -n "$told" ]; then
+    said=$(grep -v 'not proved' <&6)
+    if [ ! -s "$run.report" ] && [ -n "$said" ]; then
         note_begin "$last_run" && rm -f "$run.script" "$run.report" "$run.rates" "$run.word"
     fi
-    case $told in 'cannot use '*) told="$told (no room for all storages once more, another program in the folder, or docs/TROUBLESHOOTING.md)" ;; esac
-    cut_off "the meter has ended: ${told:-it was stopped}"
+    case $said in
+    'cannot use '*) said="$said (no room for all storages once more, another program in the folder, or docs/TROUBLESHOOTING.md)" ;;
+    stopped) said='claims.nv or departments.nv failed: look at the disk' ;;
+    esac
+    cut_off "the meter has ended: ${said:-it was stopped}"
 }
 
 # --- Lines and replies ---
 
-# One line and its reply, in $reply. What was printed is on the disk before the reply says so.
+# One line and its reply, in $reply.
 ask() {
     { printf '%s\n' "$*" >> "$run.script" && sync -d "$run.script" "$run.report"; } 2> /dev/null || lost
     printf '%s\n' "$*" 2> /dev/null >&3
+    hear
+}
+# The next line of the report, in $reply. What was printed is on the disk before the reply says so.
+hear() {
     IFS= read -r reply <&4 || ended
     case $reply in printed*) [ ! -f prints.txt ] || sync -d prints.txt 2> /dev/null || lost ;; esac
     printf '%s\n' "$reply" 2> /dev/null >> "$run.report" || lost
@@ -153,13 +167,37 @@ on() {
     surely "on $1"
     want "up $1 commits *"
     due=$(echo "$facts" | sed -n "s/^count $1 //p") due=${due:-0}
-    if [ "$(last)" -lt "$due" ] || [ "$(last)" -gt $((due + more)) ]; then
-        (ask end) 2> /dev/null
-        [ -n "$all_on" ] || set_aside
-        alarm "$1 comes on with $(last) commits, and $due are due: its storage was lost, is an older copy, or was used without post"
-    fi
+    may_be=$(echo "$facts" | sed -n "s/^more $1 //p") may_be=$((due + ${may_be:-$more}))
+    [ "$(last)" -ge "$due" ] && [ "$(last)" -le "$may_be" ] ||
+        alarm_first "$1 comes on with $(last) commits, and $due are due: its storage was lost, is an older copy, or was used without post"
     nodes="$nodes $1"
 }
+
+# The storage of this word shows the claims, or what departments have spent, that earlier runs were told.
+compare_own() {
+    told=$(told_by)
+    case $meter_word in
+    claims)
+        # A claim with this number cannot be, and is answered by the last one.
+        ask "claim 1026 1 0201$(printf '%0124d' 0)"
+        want 'refused claim wrong claim *'
+        last_claim=$(last)
+        set -- $(echo "$told" | sed -n 's/^claims //p')
+        [ "$last_claim" -ge "$1" ] && [ "$last_claim" -le "$2" ] ||
+            alarm_first "the last claim is $last_claim, and $1 is due: claims.nv was lost, is an older copy, or was used without post" ;;
+    departments)
+        for department in $(echo "$told" | sed -n 's/^department \([0-9]*\) .*/\1/p'); do
+            ask "dept spent $department"
+            due=$(echo "$told" | sed -n "s/^department $department \([0-9]*\) .*/\1/p")
+            spent=$(echo "$reply" | sed -n 's/^spent [0-9]* \([0-9]*\) .*/\1/p')
+            [ "${spent:-0}" -ge "$due" ] ||
+                alarm_first "department $department has spent ${spent:-nothing}, and $due is due: departments.nv was lost, or is an older copy"
+        done ;;
+    esac
+}
+
+# An alarm before anything is done.
+alarm_first() { (ask end) 2> /dev/null; [ -n "$all_on" ] || set_aside; alarm "$@"; }
 # A run in which nothing was done is none of those that are judged.
 set_aside() {
     aside=runs/alarm-$(date +%s)-${run#runs/}
@@ -182,11 +220,11 @@ ended 0' || die "cannot write $notes: POST_NOTES may name another file outside o
     fi
     [ "$last_run" -ge "$(noted run)" ] || alarm "the folder is an older copy: its last run is $last_run, and run $(noted run) was begun"
     unclean=$(kept | awk -v ended="$(noted ended)" '{ number = $0; sub(/-.*/, "", number); if (number + 0 > ended) print }')
-    # A commit whose answer is missing; how many a run with lines of its own makes is not known here.
+    # A commit whose answer is missing; how many a run without lines makes is not known here.
     more=0
     for name in $unclean; do
         [ "$more" -gt 1 ] || more=1
-        [ "$(cat "runs/$name.word" 2> /dev/null)" = replay ] || more=4294967295
+        case $(word_of "$name") in replay | claims | departments | manifest | statement) ;; *) more=4294967295 ;; esac
     done
     day_before=$(echo "$last_name" | cut -c 8-17)
     ! expr "$day" \< "$day_before" > /dev/null || [ -z "$day_before" ] ||
@@ -196,34 +234,72 @@ ended 0' || die "cannot write $notes: POST_NOTES may name another file outside o
     esac
 }
 
-# Begins the run of this call, finishes what earlier runs have left, and switches these nodes on.
+# Whether a run of the word $meter_word can finish what needs the word $1.
+fits() { case $1 in any | "$meter_word") ;; replay) [ "$meter_word" != departments ] ;; *) false ;; esac; }
+
+# Begins the run of this call, finishes what earlier runs have left, and switches these nodes on. What needs another word is
+# finished first, in a run of its own.
 begin() {
+    find_left
+    for other in replay claims departments; do
+        if echo "$facts" | grep -q "^left $other " && ! fits "$other"; then mend_run "$other"; find_left; fi
+    done
+    begin_run "$word" "$call" "$@"
+}
+
+find_left() {
     look_first
+    facts=$(left_by) || die "cannot read the runs in $folder/runs: nothing is done"
+}
+
+# A run of its own, of this word, in which nothing is done but what earlier ones have left.
+mend_run() {
+    own_word=$meter_word own_statement=$statement meter_word=$1 statement=
+    begin_run mend mend
+    finish
+    reported="$reported ${run#runs/}"
+    meter_word=$own_word statement=$own_statement meter= nodes= all_on= left_open= all_done= came_on=
+}
+
+# Begins a run: begin_run WORD CALL NODE ..
+begin_run() {
+    run_number=$((last_run + 1)) run=runs/$(printf '%06d' $((last_run + 1)))-$day-$1
+    keep_papers "$2"
+    shift 2
+    start_meter
+    # All nodes, before anything is done.
+    for node in "$@" $(echo "$facts" | sed -n 's/^node //p'); do on "$node"; done
+    compare_own
+    all_on=yes
+    [ -z "$statement" ] || open_statement
+    [ -z "$unclean" ] || mend
+}
+
+# The papers of the run, and the note that it has begun.
+keep_papers() {
     program=${METER:-$("$top/meter" --program)} || exit 2
     pipes=$(mktemp -d) && mkfifo "$pipes/script" "$pipes/report" || exit 2
     trap 'rm -rf "$pipes"' EXIT
     trap 'echo "post: stopped. What is left is finished by the next call" >&2; exit 130' HUP INT TERM
-    facts=$(left_by) || die "cannot read the runs in $folder/runs: nothing is done"
-    run_number=$((last_run + 1)) run=runs/$(printf '%06d' $((last_run + 1)))-$day-$word
-    { echo "# post $call" > "$run.script" && true > "$run.report" && echo replay > "$run.word" &&
+    script_head="# post $1"
+    { echo "$script_head" > "$run.script" && true > "$run.report" && echo "$meter_word" > "$run.word" &&
         if [ -f rates.toml ]; then cat rates.toml; fi > "$run.rates" &&
         sync "$run.rates" "$run.word" runs . && note_begin "$run_number"; } 2> /dev/null || {
         rm -f "$run.script" "$run.report" "$run.rates" "$run.word"
         echo "post: cannot keep a run in $folder/runs, or write $notes: nothing is done" >&2
         exit 2
     }
+}
+
+start_meter() {
     : > "$pipes/error"
     # Both ends are open before the program begins: one that is killed at once leaves an end of file, and no one waiting for it.
     exec 3<> "$pipes/script" 5<> "$pipes/report"
-    "$program" replay 2> "$pipes/error" < "$pipes/script" >&5 3>&- 5>&- &
+    "$program" "$meter_word" 2> "$pipes/error" < "$pipes/script" >&5 3>&- 5>&- &
     meter=$!
     exec 4< "$pipes/report" 6< "$pipes/error" 5>&-
-    echo "# post $call" >&3
+    echo "$script_head" >&3
     ask "day $day"
     want 'day *'
     rm -rf "$pipes"
-    # All nodes, before anything is done.
-    for node in "$@" $(echo "$facts" | sed -n 's/^node //p'); do on "$node"; done
-    all_on=yes
-    [ -z "$unclean" ] || mend
 }
