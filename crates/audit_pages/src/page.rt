@@ -162,8 +162,16 @@ fn tell_lists(rt: &HostRuntime, names: &[String], book: &Book) -> Result<(), Boo
     tell_failures(rt, names, book)
 }
 
+// Prints these lines.
+fn tell_all(rt: &HostRuntime, lines: &[String]) -> Result<(), BookFault> {
+    for line in lines.iter() {
+        say(rt, line.clone())?;
+    }
+    Ok(())
+}
+
 /// Prints the page of these runs, each with its digest, if this is the last day that was reported. Without one nothing was done in any run,
-/// and no device was made. BookFault::Write if standard output takes no more, BookFault::Memory is lack of memory.
+/// and no device was made. The lines of what runs with lines of their own keep follow those of money. BookFault::Write if standard output takes no more, BookFault::Memory is lack of memory.
 pub fn tell_page(
     rt: &HostRuntime,
     names: &[String],
@@ -171,6 +179,7 @@ pub fn tell_page(
     book: &Book,
     digests: &[[u8; 32]],
     day: Option<DayNo>,
+    own: &[String],
 ) -> Result<(), BookFault>
     requires ready { IsReady (audit_of auditor.now) }
 {
@@ -180,6 +189,7 @@ pub fn tell_page(
     }
     tell_customers(rt, auditor)?;
     tell_money(rt, auditor, book.franked, day)?;
+    tell_all(rt, own)?;
     tell_counts(rt, auditor, book)?;
     tell_lists(rt, names, book)?;
     tell_notes(rt, auditor)?;

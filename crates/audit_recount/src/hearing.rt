@@ -25,8 +25,8 @@ pub(crate) fn judged(
     if auditor.message_count() >= MOST_MESSAGES {
         return Err(BookFault::Memory);
     }
-    match judge(alloc, auditor, event, rates, line) {
-        Ok(taken) => Ok(taken),
+    match judge::<Reply>(alloc, auditor, event, rates, line) {
+        Ok(judged) => Ok(judged.taken),
         Err(Finding::Memory) => Err(BookFault::Memory),
         Err(Finding::Wrong(_)) => Err(BookFault::Counted),
     }

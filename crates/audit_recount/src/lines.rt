@@ -12,6 +12,8 @@ pub struct Run {
     pub script: Vec<u8>,
     pub report: Vec<u8>,
     pub rates: Vec<u8>,
+    /// For each line of the script, the number under which it is reported; None if they are numbered from 1 on.
+    pub lines: Option<Vec<u32>>,
 }
 
 /// What is left of a run.
@@ -29,6 +31,22 @@ impl Run {
             script: self.script.as_slice(),
             report: self.report.as_slice(),
             rates: self.rates.as_slice(),
+        }
+    }
+
+    // How many lines are looked at.
+    pub(crate) fn most(&self) -> usize {
+        match &self.lines {
+            Some(lines) => lines.len(),
+            None => LINES as usize,
+        }
+    }
+
+    // The number of the line at this place, counted from 0.
+    pub(crate) fn number_at(&self, place: usize) -> u32 {
+        match &self.lines {
+            Some(lines) => lines.get(place).copied().unwrap_or(0),
+            None => u32::try_from(place).unwrap_or(LINES).saturating_add(1),
         }
     }
 }

@@ -6,10 +6,10 @@ ghost use Rattle.trace_bench.specs.Seeing.{IsReady, audit_of};
 
 use crate::figures::{figures_of, owner_of, seen_by};
 use crate::hearing::{judged, line_of};
-use crate::lines::{LINES, Left, Run, behind, behind_line, line_len};
+use crate::lines::{Left, Run, behind, behind_line, line_len};
 use audit_book::{Book, Figures, Made};
 use audit_journal::{BookFault, Form, JournalEntry};
-use audit_tally::{Doing, Mishap, Place, doing_of};
+use audit_tally::{Doing, Mishap, Outcome, Place, doing_of};
 use bench::MOST_MESSAGES;
 use bench_base::events::{Event, Reply};
 use script_text::{Line, is_skipped, read_event};
@@ -348,16 +348,28 @@ impl Recount {
         self.auditor.begin();
         self.book.begin_run();
         let mut left = run.whole();
-        for count in 0..LINES {
+        for count in 0..run.most() {
             let at = Place {
                 run: place,
-                line: count + 1,
+                line: run.number_at(count),
             };
             match self.turn(rt, names, at, left, stopped)? {
                 Some(next) => left = next,
                 None => return Ok(()),
             }
         }
+        Ok(())
+    }
+
+    /// Keeps that the run of this place among the names was stopped at this line, one of its own: what was done for it is in doubt. BookFault::Memory
+    /// is lack of memory.
+    pub fn stop_at(&mut self, run: usize, line: u32) -> Result<(), BookFault>
+        requires ready { IsReady (audit_of self.old.auditor) }
+        ensures ready { IsReady (audit_of self.new.auditor) }
+    {
+        let place = Place { run, line };
+        self.book.note(place, Mishap::Stop, self.auditor.day())?;
+        self.book.incidents.decide_last(&place, Outcome::Doubt);
         Ok(())
     }
 }

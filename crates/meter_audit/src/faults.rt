@@ -33,7 +33,7 @@ pub enum Fault {
     FromClaims(String),
     #[error("cannot judge {0}: a run of departments goes with no --from, which does not read departments.nv")]
     FromDepartments(String),
-    #[error("cannot judge {0}: --page, --html, --csv, --json, --ledger and --due are for runs of replay alone")]
+    #[error("cannot judge {0}: --due is for a last run of replay alone")]
     ReplayAlone(String),
     #[error("cannot go on behind {0}: it was stopped at a line of its own, and what was done for that is not known")]
     OwnStop(String),

@@ -204,5 +204,6 @@ pub fn whole_run(rt: &HostRuntime, name: &str, shared: &Option<Vec<u8>>) -> Resu
         script,
         report,
         rates,
+        lines: None,
     })
 }

@@ -10,7 +10,7 @@ use std::cell::RefCell;
 use std::io::Read;
 use std::mem;
 use trace_bench::Auditor;
-use trace_extensions::{Papers, SideVerdict, TracedExtension, judge_side};
+use trace_extensions::{Papers, SideVerdict, TracedExtension, Transcript, judge_side};
 use trace_runs::{Ending, Imprint, Input, Judgment, Verdict, judge_next, read_line};
 
 /// What came of a run. Numbers are those of lines of its script.
@@ -190,7 +190,8 @@ pub fn judge_over<S: Read + Drop, R: Read + Drop>(
     )
 }
 
-/// Judges the next run, which has lines of its own, beside the desk whose lines they are. Otherwise as `judge_over`.
+/// Judges the next run, which has lines of its own, beside the desk whose lines they are, and writes what was done at the bench to the transcript.
+/// Otherwise as `judge_over`.
 pub fn judge_beside<S: Read + Drop, R: Read + Drop, D: TracedExtension>(
     alloc: Global,
     auditor: &mut Auditor,
@@ -199,6 +200,7 @@ pub fn judge_beside<S: Read + Drop, R: Read + Drop, D: TracedExtension>(
     report: R,
     rates: Vec<u8>,
     imprints: &mut Vec<Imprint>,
+    transcript: &mut Transcript,
 ) -> Result<Judged, AllocError>
     requires ready { IsReady (audit_of auditor.old) }
     ensures ready { IsReady (audit_of auditor.new) }
@@ -207,7 +209,11 @@ pub fn judge_beside<S: Read + Drop, R: Read + Drop, D: TracedExtension>(
     let report_tail = RefCell::new(Tail::new(alloc)?);
     let mut script = lines_over(alloc, script, &script_tail)?;
     let report = lines_over(alloc, report, &report_tail)?;
-    let mut papers = Papers::new(report, mem::replace(imprints, Vec::new(alloc)));
+    let mut papers = Papers::new(
+        report,
+        mem::replace(imprints, Vec::new(alloc)),
+        mem::replace(transcript, Transcript::new(alloc, false)),
+    );
     let verdict = judge_side(alloc, auditor, desk, &mut script, rates, &mut papers);
     let Papers {
         report,
@@ -216,8 +222,13 @@ pub fn judge_beside<S: Read + Drop, R: Read + Drop, D: TracedExtension>(
         answers,
         verdict: _,
         due,
+        transcript: written,
     } = papers;
+    if written.has_failed {
+        return Err(AllocError);
+    }
     *imprints = given;
+    *transcript = written;
     let mut report = report;
     let summary = side_summary(verdict, answers, due);
     let found = last_taken(alloc, &mut report, &report_tail)?;

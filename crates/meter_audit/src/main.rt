@@ -11,6 +11,7 @@ mod files;
 mod folders;
 mod held;
 mod judging;
+mod own_sums;
 mod page;
 mod plan;
 mod prints;
@@ -32,6 +33,7 @@ use audit_recount::Recount;
 use audit_words::{Asked, Call, HELP, VERSION, Words, WordsFault, read_call};
 use checking::check;
 use faults::{Fault, code_of, or_book, or_memory, or_write};
+use own_sums::own_sums;
 use page::tell_html;
 use plan::{Plan, plan_of};
 use prints::{Said, judge_prints};
@@ -138,13 +140,39 @@ fn tell_marks(
     }
 }
 
+// Prints the page of what the runs came to. After a stop at a line of its own it is not known what is kept of claims and departments.
+fn tell_sums(
+    rt: &HostRuntime,
+    plan: &Plan,
+    auditor: &Auditor,
+    clerk: &Recount,
+    gathered: &mut Gathered,
+) -> Result<(), Fault>
+    requires ready { IsReady (audit_of auditor.now) }
+{
+    let own = if gathered.is_own_stop {
+        Vec::new(rt.alloc())
+    } else {
+        own_sums(rt.alloc(), &mut gathered.claims, &mut gathered.departments)?
+    };
+    or_book(tell_page(
+        rt,
+        plan.names.as_slice(),
+        auditor,
+        &clerk.book,
+        gathered.digests.as_slice(),
+        gathered.day,
+        own.as_slice(),
+    ))
+}
+
 // Prints what is asked for below the verdicts, where nothing was found.
 fn tell_below(
     rt: &HostRuntime,
     plan: &Plan,
     auditor: &Auditor,
     clerk: &Recount,
-    gathered: &Gathered,
+    gathered: &mut Gathered,
 ) -> Result<(), Fault>
     requires ready { IsReady (audit_of auditor.now) }
     requires ready_clerk { IsReady (audit_of clerk.now.auditor) }
@@ -153,14 +181,7 @@ fn tell_below(
         Asked::Nothing | Asked::Csv | Asked::Json | Asked::Ledger | Asked::Due => Ok(()),
         Asked::Html => tell_html(rt, plan, clerk, gathered),
         Asked::Table => or_book(tell_table(rt, auditor, gathered.day)),
-        Asked::Page => or_book(tell_page(
-            rt,
-            plan.names.as_slice(),
-            auditor,
-            &clerk.book,
-            gathered.digests.as_slice(),
-            gathered.day,
-        )),
+        Asked::Page => tell_sums(rt, plan, auditor, clerk, gathered),
     }
 }
 
@@ -202,7 +223,7 @@ fn judge_words(
     if prints_code != 0 || marks_code != 0 || storages_code != 0 {
         return Ok(tell_found(rt, &plan, clerk, &gathered));
     }
-    tell_below(rt, &plan, auditor, clerk, &gathered)?;
+    tell_below(rt, &plan, auditor, clerk, &mut gathered)?;
     let is_undecided = gathered.is_undecided || is_in_doubt(auditor);
     Ok(if is_undecided && !plan.is_lenient {
         UNDECIDED

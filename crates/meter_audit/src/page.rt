@@ -86,6 +86,7 @@ pub fn run_finding(
         script,
         report,
         rates: _,
+        lines: _,
     } = run;
     Some(RunFinding {
         kind,

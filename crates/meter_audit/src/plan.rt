@@ -5,7 +5,7 @@ use crate::folders::runs_in;
 use crate::held::{HeldFolder, hold};
 use crate::prints::PrintsFile;
 use crate::scripts::may_bring_bytes;
-use crate::words::{Word, have_own_lines, want_judged, words_of};
+use crate::words::{Word, have_own_lines, want_judged, want_owing, words_of};
 use audit_words::{Asked, NamedWord, Words};
 
 /// What is judged, and what is printed beside the verdicts.
@@ -102,7 +102,10 @@ fn judged_words(
 ) -> Result<Vec<Word>, Fault> {
     let words = words_of(rt, run_words, names)?;
     for place in 0..names.len().min(words.len()) {
-        want_judged(rt, names[place].as_str(), words[place], asked, has_start)?;
+        want_judged(rt, names[place].as_str(), words[place], has_start)?;
+    }
+    if let (Some(name), Some(word)) = (names.last(), words.last()) {
+        want_owing(rt, name.as_str(), *word, asked)?;
     }
     Ok(words)
 }

@@ -7,7 +7,9 @@ use crate::files::{changed, open_of, rates_of, unknown, unusable_of, whole_run};
 use crate::judging::{Judged, Outcome, judge_beside, judge_over};
 use crate::page::{keep_run, run_finding};
 use crate::plan::{Plan, is_counted, takes_output};
-use crate::verdicts::{FINDING, is_finding, is_own_stop, is_undecided, stopped_at, verdict_text};
+use crate::verdicts::{
+    FINDING, is_finding, is_own_stop, is_undecided, own_stop_at, stopped_at, verdict_text,
+};
 use crate::words::Word;
 use audit_facts::{PrintsFinding, RunFinding};
 use audit_recount::{Recount, Run, put_due};
@@ -15,11 +17,12 @@ use audit_words::{Asked, shown_text};
 use bench_base::numbers::DayNo;
 use bench_base::stream::IoSink;
 use std::alloc::Global;
-use std::fs::File;
-use std::io;
+use std::io::{self, Read};
+use std::mem;
 use trace_bench::Auditor;
 use trace_extensions::{
-    AuditedClaims, AuditedDepartments, blank_claims, blank_departments, no_manifest,
+    AuditedClaims, AuditedDepartments, TracedExtension, Transcript, blank_claims,
+    blank_departments, no_manifest, no_statement,
 };
 use trace_runs::{Imprint, Input};
 
@@ -42,6 +45,8 @@ pub struct Gathered {
     pub claims: Option<AuditedClaims>,
     /// The same of departments.
     pub departments: Option<AuditedDepartments>,
+    /// What the last run with lines of its own did at the bench, if runs are gone over once more.
+    pub transcript: Transcript,
     /// Whether the last run was stopped at a line of its own: what that left is not known.
     pub is_own_stop: bool,
 }
@@ -59,6 +64,7 @@ impl Gathered {
             prints: None,
             claims: None,
             departments: None,
+            transcript: Transcript::new(alloc, false),
             is_own_stop: false,
         }
     }
@@ -125,12 +131,12 @@ fn departments_in(
     departments.as_mut()
 }
 
-// Judges a run of claims by its open files, beside the claims so far.
-fn judge_claims(
+// Judges a run of claims, beside the claims so far.
+fn judge_claims<S: Read + Drop, R: Read + Drop>(
     alloc: Global,
     auditor: &mut Auditor,
-    script: File,
-    report: File,
+    script: S,
+    report: R,
     rates: Vec<u8>,
     gathered: &mut Gathered,
 ) -> Result<Judged, Fault>
@@ -140,16 +146,18 @@ fn judge_claims(
     let Some(claims) = claims_in(alloc, &mut gathered.claims) else {
         return Err(Fault::Memory);
     };
-    let imprints = &mut gathered.imprints;
-    or_memory(judge_beside(alloc, auditor, claims, script, report, rates, imprints))
+    let (imprints, transcript) = (&mut gathered.imprints, &mut gathered.transcript);
+    or_memory(judge_beside(
+        alloc, auditor, claims, script, report, rates, imprints, transcript,
+    ))
 }
 
 // Judges a run of departments, beside the departments so far.
-fn judge_departments(
+fn judge_departments<S: Read + Drop, R: Read + Drop>(
     alloc: Global,
     auditor: &mut Auditor,
-    script: File,
-    report: File,
+    script: S,
+    report: R,
     rates: Vec<u8>,
     gathered: &mut Gathered,
 ) -> Result<Judged, Fault>
@@ -159,41 +167,91 @@ fn judge_departments(
     let Some(departments) = departments_in(alloc, &mut gathered.departments) else {
         return Err(Fault::Memory);
     };
-    let imprints = &mut gathered.imprints;
-    or_memory(judge_beside(alloc, auditor, departments, script, report, rates, imprints))
+    let (imprints, transcript) = (&mut gathered.imprints, &mut gathered.transcript);
+    or_memory(judge_beside(
+        alloc,
+        auditor,
+        departments,
+        script,
+        report,
+        rates,
+        imprints,
+        transcript,
+    ))
 }
 
-// Judges a run of a manifest, beside none.
-fn judge_manifest(
+// Judges a run beside a desk that keeps nothing from run to run.
+fn judge_fresh<S: Read + Drop, R: Read + Drop, D: TracedExtension + Drop>(
     alloc: Global,
     auditor: &mut Auditor,
-    script: File,
-    report: File,
+    desk: D,
+    script: S,
+    report: R,
     rates: Vec<u8>,
     gathered: &mut Gathered,
 ) -> Result<Judged, Fault>
     requires ready { IsReady (audit_of auditor.old) }
     ensures ready { IsReady (audit_of auditor.new) }
 {
-    let mut checker = no_manifest();
-    let imprints = &mut gathered.imprints;
+    let mut desk = desk;
+    let (imprints, transcript) = (&mut gathered.imprints, &mut gathered.transcript);
     or_memory(judge_beside(
-        alloc,
-        auditor,
-        &mut checker,
-        script,
-        report,
-        rates,
-        imprints,
+        alloc, auditor, &mut desk, script, report, rates, imprints, transcript,
     ))
 }
 
-// Judges a run of events alone.
-fn judge_events(
+// Judges a run of a manifest.
+fn judge_manifest<S: Read + Drop, R: Read + Drop>(
     alloc: Global,
     auditor: &mut Auditor,
-    script: File,
-    report: File,
+    script: S,
+    report: R,
+    rates: Vec<u8>,
+    gathered: &mut Gathered,
+) -> Result<Judged, Fault>
+    requires ready { IsReady (audit_of auditor.old) }
+    ensures ready { IsReady (audit_of auditor.new) }
+{
+    judge_fresh(
+        alloc,
+        auditor,
+        no_manifest(),
+        script,
+        report,
+        rates,
+        gathered,
+    )
+}
+
+// Judges a run of statements.
+fn judge_statement<S: Read + Drop, R: Read + Drop>(
+    alloc: Global,
+    auditor: &mut Auditor,
+    script: S,
+    report: R,
+    rates: Vec<u8>,
+    gathered: &mut Gathered,
+) -> Result<Judged, Fault>
+    requires ready { IsReady (audit_of auditor.old) }
+    ensures ready { IsReady (audit_of auditor.new) }
+{
+    judge_fresh(
+        alloc,
+        auditor,
+        no_statement(alloc),
+        script,
+        report,
+        rates,
+        gathered,
+    )
+}
+
+// Judges a run of events alone.
+fn judge_events<S: Read + Drop, R: Read + Drop>(
+    alloc: Global,
+    auditor: &mut Auditor,
+    script: S,
+    report: R,
     rates: Vec<u8>,
     gathered: &mut Gathered,
 ) -> Result<Judged, Fault>
@@ -204,13 +262,13 @@ fn judge_events(
     or_memory(judge_over(alloc, auditor, script, report, rates.as_slice(), imprints))
 }
 
-// Judges a run of this word by its open files.
-fn judge_opened(
+// Judges a run of this word by what these read.
+fn judge_opened<S: Read + Drop, R: Read + Drop>(
     alloc: Global,
     auditor: &mut Auditor,
     word: Word,
-    script: File,
-    report: File,
+    script: S,
+    report: R,
     rates: Vec<u8>,
     gathered: &mut Gathered,
 ) -> Result<Judged, Fault>
@@ -222,6 +280,7 @@ fn judge_opened(
         Word::Claims => judge_claims(alloc, auditor, script, report, rates, gathered),
         Word::Departments => judge_departments(alloc, auditor, script, report, rates, gathered),
         Word::Manifest => judge_manifest(alloc, auditor, script, report, rates, gathered),
+        Word::Statement => judge_statement(alloc, auditor, script, report, rates, gathered),
     }
 }
 
@@ -243,7 +302,24 @@ fn judge_files(
     judge_opened(rt.alloc(), auditor, word, script, report, rates, gathered)
 }
 
-// Judges a run that is whole in memory.
+// Judges a run of this word that is whole in memory, and has what it does at the bench written down if it has lines of its own.
+fn judge_read(
+    alloc: Global,
+    auditor: &mut Auditor,
+    word: Word,
+    run: &Run,
+    gathered: &mut Gathered,
+) -> Result<Judged, Fault>
+    requires ready { IsReady (audit_of auditor.old) }
+    ensures ready { IsReady (audit_of auditor.new) }
+{
+    gathered.transcript = Transcript::new(alloc, true);
+    let rates = or_memory(run.rates.clone())?;
+    let (script, report) = (run.script.as_slice(), run.report.as_slice());
+    judge_opened(alloc, auditor, word, script, report, rates, gathered)
+}
+
+// Judges a run that is gone over once more, of events alone.
 fn judge_whole(
     alloc: Global,
     auditor: &mut Auditor,
@@ -324,10 +400,93 @@ impl Gathered {
         or_memory(self.ends.push(self.imprints.len()))
     }
 
+    // What the last run did at the bench, as a run of events alone with these rates.
+    fn told_run(&mut self, alloc: Global, rates: Vec<u8>) -> Run {
+        let empty = Transcript::new(alloc, false);
+        let Transcript {
+            is_kept: _,
+            has_failed: _,
+            number: _,
+            script,
+            report,
+            lines,
+        } = mem::replace(&mut self.transcript, empty);
+        Run {
+            script,
+            report,
+            rates,
+            lines: Some(lines),
+        }
+    }
+
     // Gathers the digest up to a run.
     fn digest(&mut self, run: &Run) -> Result<(), Fault> {
         let before = self.digests.last().copied().unwrap_or(NO_RUNS);
         or_memory(self.digests.push(digest_with(&before, run)))
+    }
+}
+
+// How many line ends there are.
+fn line_ends(bytes: &[u8]) -> usize {
+    let mut count = 0_usize;
+    for at in 0..bytes.len() {
+        if bytes[at] == b'\n' {
+            count = count.saturating_add(1);
+        }
+    }
+    count
+}
+
+// The line of its own at which a run was stopped, by what it did at the bench. If it was stopped at an event, that has no whole reply.
+fn stop_in_own(told: &Run, judged: &Judged) -> Option<u32> {
+    if line_ends(told.script.as_slice()) == line_ends(told.report.as_slice()) {
+        stopped_at(judged).or(own_stop_at(judged))
+    } else {
+        own_stop_at(judged)
+    }
+}
+
+// Goes once more over a run with lines of its own, by what it did at the bench.
+fn count_told(
+    rt: &HostRuntime,
+    plan: &Plan,
+    clerk: &mut Recount,
+    gathered: &mut Gathered,
+    place: usize,
+    run: &Run,
+    judged: &Judged,
+) -> Result<(), Fault>
+    requires ready { IsReady (audit_of clerk.old.auditor) }
+    ensures ready { IsReady (audit_of clerk.new.auditor) }
+{
+    let rates = or_memory(run.rates.clone())?;
+    let told = gathered.told_run(rt.alloc(), rates);
+    count(rt, plan, clerk, place, &told, stopped_at(judged))?;
+    match stop_in_own(&told, judged) {
+        Some(line) => or_book(clerk.stop_at(place, line)),
+        None => Ok(()),
+    }
+}
+
+// Goes once more over a run of this word without a finding.
+fn count_run(
+    rt: &HostRuntime,
+    plan: &Plan,
+    clerk: &mut Recount,
+    gathered: &mut Gathered,
+    place: usize,
+    word: Word,
+    run: &Run,
+    judged: &Judged,
+) -> Result<(), Fault>
+    requires ready { IsReady (audit_of clerk.old.auditor) }
+    ensures ready { IsReady (audit_of clerk.new.auditor) }
+{
+    match word {
+        Word::Replay => count(rt, plan, clerk, place, run, stopped_at(judged)),
+        Word::Claims | Word::Departments | Word::Manifest | Word::Statement => {
+            count_told(rt, plan, clerk, gathered, place, run, judged)
+        }
     }
 }
 
@@ -353,7 +512,7 @@ fn judge_next(
         return tell(rt, plan, name, &judged);
     }
     let run = whole_run(rt, name, &plan.rates)?;
-    let judged = judge_whole(rt.alloc(), auditor, &run, &mut gathered.imprints)?;
+    let judged = judge_read(rt.alloc(), auditor, word, &run, gathered)?;
     gathered.gather(&judged, auditor.day())?;
     let code = tell(rt, plan, name, &judged)?;
     if code != 0 {
@@ -361,7 +520,7 @@ fn judge_next(
         return Ok(code);
     }
     gathered.digest(&run)?;
-    count(rt, plan, clerk, place, &run, stopped_at(&judged))?;
+    count_run(rt, plan, clerk, gathered, place, word, &run, &judged)?;
     if plan.asked == Asked::Html {
         keep_run(rt.alloc(), &mut clerk.book, &judged, &run)?;
     }

@@ -19,10 +19,10 @@ pub fn is_finding(judged: &Judged) -> bool {
     }
 }
 
-/// Whether the run was stopped at a line of its own.
-pub fn is_own_stop(judged: &Judged) -> bool {
+/// The line of its own that the run was stopped at, if it was.
+pub fn own_stop_at(judged: &Judged) -> Option<u32> {
     match judged.outcome {
-        Outcome::StoppedInOwn(_) => true,
+        Outcome::StoppedInOwn(line) => Some(line),
         Outcome::Lawful(_)
         | Outcome::Stopped(_)
         | Outcome::Wrong(_)
@@ -30,8 +30,13 @@ pub fn is_own_stop(judged: &Judged) -> bool {
         | Outcome::Unkept(_)
         | Outcome::More(_, _)
         | Outcome::Unread(_)
-        | Outcome::Memory => false,
+        | Outcome::Memory => None,
     }
+}
+
+/// Whether the run was stopped at a line of its own.
+pub fn is_own_stop(judged: &Judged) -> bool {
+    own_stop_at(judged).is_some()
 }
 
 /// Whether a run without a finding leaves something undecided: its script has no end, its report has nothing, or it was stopped at a line of its own.

@@ -10,6 +10,7 @@ pub enum Word {
     Claims,
     Departments,
     Manifest,
+    Statement,
 }
 
 /// What a word says.
@@ -29,7 +30,8 @@ fn meaning_of(word: &[u8]) -> Meaning {
         b"claims" => Meaning::Judged(Word::Claims),
         b"manifest" => Meaning::Judged(Word::Manifest),
         b"departments" => Meaning::Judged(Word::Departments),
-        b"statement" | b"generate" | b"recompute" => Meaning::Unjudged,
+        b"statement" => Meaning::Judged(Word::Statement),
+        b"generate" | b"recompute" => Meaning::Unjudged,
         _ => Meaning::Unknown,
     }
 }
@@ -109,35 +111,23 @@ pub fn words_of(
     Ok(words)
 }
 
-// Whether runs with lines of their own go with what is asked for.
-fn goes_with_own_lines(asked: Asked) -> bool {
-    match asked {
-        Asked::Nothing | Asked::Table => true,
-        Asked::Page | Asked::Html | Asked::Csv | Asked::Json | Asked::Ledger | Asked::Due => false,
-    }
-}
-
-/// Refuses a run of this word if it goes not with what is asked for, or with a start from storages.
-pub fn want_judged(
-    rt: &HostRuntime,
-    name: &str,
-    word: Word,
-    asked: Asked,
-    has_start: bool,
-) -> Result<(), Fault> {
-    if word == Word::Replay {
+/// Refuses the last run if it is of this word, and what is due after its stop is asked for: of lines of its own that is not known.
+pub fn want_owing(rt: &HostRuntime, name: &str, word: Word, asked: Asked) -> Result<(), Fault> {
+    if word == Word::Replay || asked != Asked::Due {
         return Ok(());
     }
-    if !goes_with_own_lines(asked) {
-        return Err(Fault::ReplayAlone(or_memory(shown_text(rt.alloc(), name))?));
-    }
+    Err(Fault::ReplayAlone(or_memory(shown_text(rt.alloc(), name))?))
+}
+
+/// Refuses a run of this word if it goes not with a start from storages.
+pub fn want_judged(rt: &HostRuntime, name: &str, word: Word, has_start: bool) -> Result<(), Fault> {
     if !has_start {
         return Ok(());
     }
     match word {
         Word::Claims => Err(Fault::FromClaims(or_memory(shown_text(rt.alloc(), name))?)),
         Word::Departments => Err(Fault::FromDepartments(or_memory(shown_text(rt.alloc(), name))?)),
-        Word::Replay | Word::Manifest => Ok(()),
+        Word::Replay | Word::Manifest | Word::Statement => Ok(()),
     }
 }
 

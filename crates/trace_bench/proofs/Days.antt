@@ -37,6 +37,10 @@ use Rattle.bench.proofs.Making.{get_some}
 use Rattle.trace_bench.specs.declared.{judging.Heard.Heard, judging.Finding.Finding}
 use Rattle.trace_device.specs.Records as device_records
 use Rattle.trace_centre.specs.Cells as centre_cells
+use Rattle.node_turns.specs.Turns as turns
+use Rattle.node_turns.specs.Turns.{in_order}
+use Rattle.node_turns.specs.declared.turn.Turn.{Turn}
+use Rattle.trace_nodes.specs.Released.{released_in}
 use Rattle.trace_views.specs.Verdicts.{Adds}
 use Rattle.bench_base.specs.Replies.{fails_to_read}
 use Rattle.trace_bench.specs.Judging.{IsHeard}
@@ -100,11 +104,11 @@ day_adds t L = let none = adds_none L in record { sends = none.sends; releases =
 
 -- == what is heard ==
 
-module _ (τ : Tariff) (H : Ledger) (left line : List ℕ) (old : Audit) (sees : SeesRun old H) where
-  pub hears_day : (e : Event) (t : ℤ) → e ≡ ev.Day t → IsWholeEvent e → (heard : Heard) → IsPlainly (r.Day t) line (Ok heard) → IsHeard τ H e left line (record old { day = Some t }) (Ok heard)
+module _ {T : Type 0} (IsOf : T → Turn → Type 0) (τ : Tariff) (H : Ledger) (left line : List ℕ) (old : Audit) (sees : SeesRun old H) where
+  pub hears_day : (e : Event) (t : ℤ) → e ≡ ev.Day t → IsWholeEvent e → (heard : Heard T) → IsPlainly IsOf (r.Day t) (entry.Day t ∷ []) line (Ok heard) → IsHeard IsOf τ H e left line (record old { day = Some t }) (Ok heard)
   hears_day e t is whole heard plainly =
       heard_plainly τ H e (told (r.Day t) (entry.Day t ∷ [])) (subst (λ (i : Event). plan τ todays_rules H i [] ≡ told (r.Day t) (entry.Day t ∷ [])) (sym is) (plan_day τ H t [])) quiet
-      (λ reply reading. not reading.event) left line (takes_none e (day_in H) left not) whole old (record old { day = Some t }) (Ok heard) plainly sees
+      (λ reply reading. not reading.event) IsOf (entry.Day t ∷ []) refl left line (takes_none e (day_in H) left not) whole old (record old { day = Some t }) (Ok heard) plainly sees
       (λ h same. record {
         day = record { day = refl; messages = sees.day.messages; rates = sees.day.rates };
         devices = sees.devices;
@@ -118,21 +122,21 @@ module _ (τ : Tariff) (H : Ledger) (left line : List ℕ) (old : Audit) (sees :
       not same = let wrong : ev.Day t ≡ ev.Rates = sym is ∙ same in cc
 
       quiet : IsSilent (told (r.Day t) (entry.Day t ∷ []))
-      quiet = record { silent = refl; no_up = λ m k named. cc; no_print = λ j named. cc; adds = day_adds t }
+      quiet = record { silent = refl; no_up = λ m k named. cc; no_print = λ j named. cc; adds = day_adds t; unsent = refl; unreleased = refl }
 
-  pub misses_day : (e : Event) (t : ℤ) → e ≡ ev.Day t → IsWholeEvent e → (finding : Finding) → IsPlainly (r.Day t) line (Err finding) → IsHeard τ H e left line old (Err finding)
+  pub misses_day : (e : Event) (t : ℤ) → e ≡ ev.Day t → IsWholeEvent e → (finding : Finding) → IsPlainly IsOf (r.Day t) (entry.Day t ∷ []) line (Err finding) → IsHeard IsOf τ H e left line old (Err finding)
   misses_day e t is whole finding plainly =
       heard_plainly τ H e (told (r.Day t) (entry.Day t ∷ [])) (subst (λ (i : Event). plan τ todays_rules H i [] ≡ told (r.Day t) (entry.Day t ∷ [])) (sym is) (plan_day τ H t []))
-      (record { silent = refl; no_up = λ m k named. cc; no_print = λ j named. cc; adds = day_adds t })
-      (λ reply reading. not reading.event) left line (takes_none e (day_in H) left not) whole old old (Err finding) plainly sees (λ h wrong. cc) (λ due same. refl)
+      (record { silent = refl; no_up = λ m k named. cc; no_print = λ j named. cc; adds = day_adds t; unsent = refl; unreleased = refl })
+      (λ reply reading. not reading.event) IsOf (entry.Day t ∷ []) refl left line (takes_none e (day_in H) left not) whole old old (Err finding) plainly sees (λ h wrong. cc) (λ due same. refl)
     where
       not : e ≢ ev.Rates
       not same = let wrong : ev.Day t ≡ ev.Rates = sym is ∙ same in cc
 
   -- without a day
-  pub hears_no_day : (e : Event) → needs_day e ≡ true → old.day ≡ None → IsWholeEvent e → (result : Result Heard Finding) → IsPlainly r.NoDay line result → IsHeard τ H e left line old result
+  pub hears_no_day : (e : Event) → needs_day e ≡ true → old.day ≡ None → IsWholeEvent e → (result : Result (Heard T) Finding) → IsPlainly IsOf r.NoDay [] line result → IsHeard IsOf τ H e left line old result
   hears_no_day e needs none whole result plainly =
-      heard_plainly τ H e (refuse r.NoDay) (plan_none τ H e [] needs (sym none ∙ sees.day.day)) (record { silent = refl; no_up = λ m k is. cc; no_print = λ j is. cc; adds = λ L. adds_none L }) reads left line (takes_undated e (day_in H) left undated) whole
+      heard_plainly τ H e (refuse r.NoDay) (plan_none τ H e [] needs (sym none ∙ sees.day.day)) (record { silent = refl; no_up = λ m k is. cc; no_print = λ j is. cc; adds = λ L. adds_none L; unsent = refl; unreleased = refl }) reads IsOf [] refl left line (takes_undated e (day_in H) left undated) whole
       old old result plainly sees (λ heard is. sees) (λ due is. refl)
     where
       undated : is_some (day_in H) ≡ false
@@ -141,18 +145,19 @@ module _ (τ : Tariff) (H : Ledger) (left line : List ℕ) (old : Audit) (sees :
       reads : (reply : Reply) → FailsToRead e reply (day_in H) → ⊥
       reads reply fails = true≢false (sym fails.dated ∙ undated)
 
-  pub hears_still : (e : Event) (x : Reply) → plan τ todays_rules H e [] ≡ refuse x → IsStill x → e ≢ ev.Rates → IsWholeEvent e → (result : Result Heard Finding) → IsPlainly x line result → IsHeard τ H e left line old result
+  pub hears_still : (e : Event) (x : Reply) → plan τ todays_rules H e [] ≡ refuse x → IsStill x → e ≢ ev.Rates → IsWholeEvent e → (result : Result (Heard T) Finding) → IsPlainly IsOf x [] line result → IsHeard IsOf τ H e left line old result
   hears_still e x planned still not whole result plainly =
-      heard_plainly τ H e (refuse x) planned (record { silent = refl; no_up = still.no_up; no_print = still.no_print; adds = λ L. subst (λ (K : Ledger). Adds None None L K) (sym (still.stays L)) (adds_none L) }) (λ reply reading. not reading.event) left line (takes_none e (day_in H) left not) whole
+      heard_plainly τ H e (refuse x) planned (record { silent = refl; no_up = still.no_up; no_print = still.no_print; adds = λ L. subst (λ (K : Ledger). Adds None None L K) (sym (still.stays L)) (adds_none L); unsent = ap (λ (l : Ledger). turns.sent_in (in_order l)) (still.stays []); unreleased = ap (λ (l : Ledger). released_in (in_order l)) (still.stays []) }) (λ reply reading. not reading.event)
+      IsOf [] (still.stays []) left line (takes_none e (day_in H) left not) whole
       old old result plainly sees (λ heard is. subst (λ (K : Ledger). SeesRun old K) (sym (still.stays H)) sees) (λ due is. refl)
 
-  pub hears_end : (e : Event) → e ≡ ev.End → IsWholeEvent e → (result : Result Heard Finding) → IsPlainly r.End line result → IsHeard τ H e left line old result
+  pub hears_end : (e : Event) → e ≡ ev.End → IsWholeEvent e → (result : Result (Heard T) Finding) → IsPlainly IsOf r.End [] line result → IsHeard IsOf τ H e left line old result
   hears_end e is whole result plainly = hears_still e r.End (subst (λ (i : Event). plan τ todays_rules H i [] ≡ refuse r.End) (sym is) (plan_end τ H [])) end_still (λ same. let wrong : ev.End ≡ ev.Rates = sym is ∙ same in cc) whole result plainly
 
   -- an event of no node that the bench answers by what it sees
   module _ (texts : IsOfTexts τ) (prices : KeptPrices) (history : History τ editions H) (quiet : OthersAreQuiet bench_kinds centre.IsKnown) (known : centre.IsKnown (centre_cells.view_of old.centre).state) where
     pub hears_quiet : (today : ℤ) → old.day ≡ Some today → (e : Event) (x : OfDay) → routed old.messages (quote old.rates) e ≡ Some (route.OfDay x) → x ≢ of_day.Rates → (reply : Reply) → quiet_by bench_kinds H x ≡ Some reply → IsStill reply → IsWholeEvent e
-        → (result : Result Heard Finding) → IsPlainly reply line result → IsHeard τ H e left line old result
+        → (result : Result (Heard T) Finding) → IsPlainly IsOf reply [] line result → IsHeard IsOf τ H e left line old result
     hears_quiet today day e x is other reply answers still whole result plainly =
         hears_still e reply
         (quiet τ H e today x reply history (sym sees.day.day ∙ day) (taken_there τ prices texts H old e (route.OfDay x) sees is) (subst (λ (v : View centre.Seen). centre.IsKnown v.state) sees.centre known) answers)

@@ -17,12 +17,13 @@ use Rattle.ledger_moves.specs.Moves.{Moves, entries}
 use Rattle.ledger_moves.specs.Tariffs.{Tariff}
 use Rattle.debit_laws.specs.Debits.{IsDebited, IsLast, DebitsMore}
 use Rattle.bench_abstraction.specs.declared.calls.DeviceCall.{DeviceCall}
-use Rattle.trace_nodes.specs.declared.{giving.GaveOut.GaveOut, traced.Traced.Traced}
+use Rattle.node_turns.specs.declared.turn.Turn.{Turn}
+use Rattle.trace_nodes.specs.declared.traced.Traced.{Traced}
 use Rattle.trace_device.specs.declared.record.DeviceRecord.{DeviceRecord}
-use Rattle.trace_bench.specs.declared.{judging.Heard.Heard, judging.Finding.Finding}
+use Rattle.trace_bench.specs.declared.{noting.Noted.Noted, judging.Heard.Heard, judging.Finding.Finding}
 use Rattle.trace_bench.specs.Debits.{IsLastOf, OthersAlike, OthersRest}
 use Rattle.trace_bench.specs.Placed.{DeviceJudged}
-use Rattle.trace_bench.specs.Plainly.{heard_of_device}
+use Rattle.trace_bench.specs.Plainly.{heard_of_node}
 use Rattle.trace_bench.specs.Judging.{ledger_with, text_with}
 use Rattle.trace_bench.specs.Seeing.{Audit, SeesRun, sending}
 use Rattle.trace_bench.proofs.Keeping.{DebitsAlso}
@@ -30,14 +31,14 @@ use Rattle.trace_bench.proofs.Seen.{set_other}
 use Rattle.trace_bench.proofs.Sent.{DebitsHeard}
 
 -- no device was changed
-pub none_changed : (result : Result Heard Finding) (devices : List (Traced DeviceRecord State)) → OthersRest result devices devices
+pub none_changed : {T : Type 0} (result : Result (Heard T) Finding) (devices : List (Traced DeviceRecord State)) → OthersRest result devices devices
 none_changed (Ok heard) devices = λ i s at other. at
 none_changed (Err finding) devices = tt
 
 -- nor was another than this one, in its place
-pub other_places : (d : ℕ) {today : ℤ} {asked : Asked DeviceCall} {line : List ℕ} {old new : List (Traced DeviceRecord State)} {judged : Result GaveOut Reply} → DeviceJudged d today asked line old new judged
-    → OthersRest (heard_of_device d judged) old new
-other_places d {judged = Ok gave} of = λ i s at other.
+pub other_places : {T : Type 0} {IsOf : Noted T → Turn → Type 0} (d : ℕ) {today : ℤ} {asked : Asked DeviceCall} {line : List ℕ} {old new : List (Traced DeviceRecord State)} {judged : Result (Noted T) Reply} → DeviceJudged IsOf d today asked line old new judged
+    → OthersRest (heard_of_node (Some d) judged) old new
+other_places d {judged = Ok noted} of = λ i s at other.
     let differs : i ≢ of.place = λ same. other (ap (λ (k : ℕ). Some k) (of.is_device ∙ ap (λ (k : ℕ). k + 1) (sym same))) in
     sym (set_other _ of.place of.now i differs) ∙ subst (λ (l : List (Traced DeviceRecord State)). slice_get l i ≡ Some s) of.set at
 other_places d {judged = Err due} of = tt
@@ -97,9 +98,9 @@ LawMore = (τ : Tariff) (H : Ledger) (x : Event) (text : List ℕ) (reply : Repl
 abbrev pub LawKept : Type 0
 LawKept = (τ : Tariff) (H : Ledger) (mark : List ℕ) → History τ editions H → IsLast mark (counted H) → IsDebited mark (counted H)
 
-pub debits_heard : (τ : Tariff) (H : Ledger) (e : Event) (left line : List ℕ) → History τ editions H → Unforged e H → LawMore → LawKept → (heard : Heard) (old now : Audit) → SeesRun old H → length now.devices ≡ 8
-    → OthersRest (Ok heard) old.devices now.devices → DebitsHeard τ H e left line heard now
-debits_heard τ H e left line history unforged law kept heard old now was eight others reply moves sees =
+pub debits_heard : {T : Type 0} (IsOf : T → Turn → Type 0) (τ : Tariff) (H : Ledger) (e : Event) (left line : List ℕ) → History τ editions H → Unforged e H → LawMore → LawKept → (heard : Heard T) (old now : Audit) → SeesRun old H → length now.devices ≡ 8
+    → OthersRest (Ok heard) old.devices now.devices → DebitsHeard IsOf τ H e left line heard now
+debits_heard IsOf τ H e left line history unforged law kept heard old now was eight others reply moves sees =
     debits_also old (sending heard.sent now) H (ledger_with τ H e left line reply) heard.device was sees others eight
     (law τ H e (text_with τ H e left line reply) reply history unforged moves) (λ mark. kept τ H mark history)
 

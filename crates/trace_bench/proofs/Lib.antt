@@ -6,6 +6,7 @@ mod Forged
 mod Keeping
 mod Lifting
 mod Nodes
+mod Notes
 mod OfRates
 mod Printing
 mod Quiet

@@ -8,9 +8,10 @@ use Rattle.bench_base.specs.Ledger.{Ledger, day_in}
 use Rattle.ledger_moves.specs.Tariffs.{Tariff}
 use Rattle.ledger_moves.specs.Moves.{Moves, answer, entries}
 use Rattle.script_text.specs.Texts.{text_of, IsWholeReply}
-use Rattle.trace_views.specs.Verdicts.{Adds}
+use Rattle.node_turns.specs.declared.turn.Turn.{Turn}
+use Rattle.trace_views.specs.Verdicts.{Adds, turn_at}
 use Rattle.bench_base.specs.Events.{takes_rates}
-use Rattle.trace_bench.specs.Judging.{taken_by, text_with, ledger_with, IsToldBy, IsUntoldBy}
+use Rattle.trace_bench.specs.Judging.{taken_by, text_with, ledger_with, turn_with, IsToldBy, IsUntoldBy}
 use Rattle.trace_bench.specs.Seeing.{Audit, SeesRun}
 
 pub not_rates : (e : Event) → e ≢ ev.Rates → takes_rates e ≡ false
@@ -45,3 +46,7 @@ module _ (τ : Tariff) (H : Ledger) (e : Event) (left line : List ℕ) (none : T
 
   pub lift_adds : (sent released : Option (List ℕ)) (reply : Reply) → Adds sent released H (entries τ todays_rules H e [] reply) → Adds sent released H (ledger_with τ H e left line reply)
   lift_adds sent released reply adds = subst (λ (t : List ℕ). Adds sent released H (entries τ todays_rules H e t reply)) (sym (none (class_of reply))) adds
+
+  -- the turn of the event
+  pub lift_turn : {T : Type 0} (IsOf : T → Turn → Type 0) (told : T) (reply : Reply) → IsOf told (turn_at τ H e [] reply) → IsOf told (turn_with τ H e left line reply)
+  lift_turn IsOf told reply is = subst (λ (t : List ℕ). IsOf told (turn_at τ H e t reply)) (sym (none (class_of reply))) is

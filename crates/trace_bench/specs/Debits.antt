@@ -23,6 +23,6 @@ abbrev pub OthersAlike : Option ℕ → List (Traced DeviceRecord State) → Lis
 OthersAlike device old new = (i : ℕ) (s : Traced DeviceRecord State) → slice_get new i ≡ Some s → (device ≡ Some (i + 1) → ⊥) → slice_get old i ≡ Some s
 
 -- so it is where an event was heard of
-abbrev pub OthersRest : Result Heard Finding → List (Traced DeviceRecord State) → List (Traced DeviceRecord State) → Type 0
+abbrev pub OthersRest : {T : Type 0} → Result (Heard T) Finding → List (Traced DeviceRecord State) → List (Traced DeviceRecord State) → Type 0
 OthersRest (Ok heard) old new = OthersAlike heard.device old new
 OthersRest (Err finding) old new = Unit {0}

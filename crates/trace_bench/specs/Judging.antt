@@ -10,8 +10,9 @@ use Rattle.ledger_moves.specs.Moves.{Moves, answer, entries}
 use Rattle.ledger_moves.specs.Histories.{History, Unforged}
 use Rattle.bench_abstraction.specs.Tariff.{IsOfTexts}
 use Rattle.script_text.specs.Texts.{text_of, IsWholeReply}
-use Rattle.trace_bench.specs.declared.{judging.Heard.Heard, judging.Finding.Finding, judging.Finding.TheVariants.Wrong, judging.Finding.TheVariants.Memory}
-use Rattle.trace_views.specs.Verdicts.{Adds}
+use Rattle.trace_bench.specs.declared.{judging.Heard.Heard, judging.Judged.Judged, judging.Finding.Finding, judging.Finding.TheVariants.Wrong, judging.Finding.TheVariants.Memory}
+use Rattle.node_turns.specs.declared.turn.Turn.{Turn}
+use Rattle.trace_views.specs.Verdicts.{Adds, turn_at}
 use Rattle.trace_bench.specs.Seeing.{Audit, Sees, SeesRun, sending}
 
 -- what an event takes of the rates that are left: a `rates` on a day at most 65,537 bytes, unless they can't be read; any other nothing
@@ -52,17 +53,26 @@ module _ (τ : Tariff) (H : Ledger) (e : Event) (left line : List ℕ) where
   abbrev pub IsUntold : Audit → Reply → Type 0
   IsUntold a due = IsUntoldBy (Sees a) due
 
-  -- what is judged of the line: how much of the rates was taken, what is sent next, and what is added to what was sent and released in all runs
-  abbrev pub IsHeard : Audit → Result Heard Finding → Type 0
-  IsHeard a (Ok heard) = (reply : Reply) × IsToldBy (SeesRun (sending heard.sent a)) reply × (heard.taken ≡ length (text_with reply))
-      × Adds heard.sent heard.released H (ledger_with reply)
-  IsHeard a (Err (Wrong due)) = IsUntoldBy (SeesRun a) due
+  -- the turn of the event, if it gets this reply
+  abbrev pub turn_with : Reply → Turn
+  turn_with reply = turn_at τ H e (text_with reply) reply
+
+-- At ledger H, where these rates are left, the report has this line for this event; `IsOf` says how a turn is reported.
+module _ {T : Type 0} (IsOf : T → Turn → Type 0) (τ : Tariff) (H : Ledger) (e : Event) (left line : List ℕ) where
+  -- what is judged of the line: the turn, how much of the rates was taken, what is sent next, and what is added to what was sent and released in all
+  -- runs
+  abbrev pub IsHeard : Audit → Result (Heard T) Finding → Type 0
+  IsHeard a (Ok heard) = (reply : Reply) × IsToldBy τ H e left line (SeesRun (sending heard.sent a)) reply
+      × (heard.taken ≡ length (text_with τ H e left line reply)) × Adds heard.sent heard.released H (ledger_with τ H e left line reply)
+      × IsOf heard.told (turn_with τ H e left line reply)
+  IsHeard a (Err (Wrong due)) = IsUntoldBy τ H e left line (SeesRun a) due
   IsHeard a (Err Memory) = Unit {0}
 
   -- the same, where the message was sent
-  abbrev pub IsJudged : Audit → Result ℕ Finding → Type 0
-  IsJudged a (Ok taken) = (reply : Reply) × IsTold a reply × (taken ≡ length (text_with reply))
-  IsJudged a (Err (Wrong due)) = IsUntold a due
+  abbrev pub IsJudged : Audit → Result (Judged T) Finding → Type 0
+  IsJudged a (Ok judged) = (reply : Reply) × IsTold τ H e left line a reply × (judged.taken ≡ length (text_with τ H e left line reply))
+      × IsOf judged.told (turn_with τ H e left line reply)
+  IsJudged a (Err (Wrong due)) = IsUntold τ H e left line a due
   IsJudged a (Err Memory) = Unit {0}
 
 -- P at each history that the auditor has, if the event contains nothing forged at it, by a tariff of texts

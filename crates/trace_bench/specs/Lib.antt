@@ -9,6 +9,7 @@ pub mod Starting
 pub mod Stopping
 pub mod Telling
 -- What the functions inside say.
+pub mod Noting
 pub mod Prefixes
 pub mod Placed
 pub mod Plainly

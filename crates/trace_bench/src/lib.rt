@@ -6,6 +6,7 @@ pub mod comparing;
 pub mod forging;
 pub mod judging;
 pub mod known;
+mod noting;
 pub mod printed;
 pub mod rates;
 pub mod starting;
@@ -16,6 +17,6 @@ pub mod traced;
 
 pub use auditor::Auditor;
 pub use forging::{index, is_forged};
-pub use judging::{Finding, judge};
+pub use judging::{Finding, Judged, judge};
 pub use printed::mark_due;
 pub use stopping::{begins, due_to, stop};

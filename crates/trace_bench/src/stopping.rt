@@ -132,7 +132,7 @@ pub fn due_to(
     ensures due { AtEach (audit_of auditor.old) event.now (λ τ H. IfOk result (λ due. IsDue τ H event.now left.now due × Sees (audit_of auditor.new) H)) }
 {
     one_line();
-    match hear(alloc, auditor, event, left, b"\n") {
+    match hear::<Reply>(alloc, auditor, event, left, b"\n") {
         Err(Finding::Wrong(due)) => Ok(due),
         Err(Finding::Memory) | Ok(_) => Err(AllocError),
     }
@@ -160,7 +160,7 @@ fn lose_power_at(
     debits();
     let mut line = Line::new();
     put_reply(&mut line, &Reply::Power(*node));
-    match hear(alloc, auditor, event, left, line.as_slice()) {
+    match hear::<Reply>(alloc, auditor, event, left, line.as_slice()) {
         Ok(heard) => match send(auditor, heard) {
             Ok(_) => Ok(true),
             Err(_) => Err(AllocError),
@@ -271,7 +271,7 @@ fn tell_done(
 {
     let mut line = Line::new();
     put_reply(&mut line, reply);
-    match judge(alloc, auditor, event, left, line.as_slice()) {
+    match judge::<Reply>(alloc, auditor, event, left, line.as_slice()) {
         Ok(_) => Ok(()),
         Err(_) => Err(AllocError),
     }

@@ -1,8 +1,7 @@
--- The acts of the centre's calls: what they commit, which replies they may get, and what they print.
-use Rattle.std.proofs.Common.{◌≡◌, ◌≢◌, ℕ, None, refl}
+-- The acts of the centre's calls: what they commit, and which replies they may get.
+use Rattle.std.proofs.Common.{◌≡◌, ℕ, refl}
 use Rattle.std.specs.Prelude.{IfSome}
 use Rattle.bench_base.specs.declared.{words.Node.TheVariants.Centre, events.Reply.Reply}
-use Rattle.bench_base.specs.declared.events.Reply.TheVariants as r
 use Rattle.bench_base.specs.Replies.{Did, class_of}
 use Rattle.node_acts.specs.declared.{act.Act.Act, said.Said.Said}
 use Rattle.node_acts.specs.Acts.{commit_of}
@@ -11,7 +10,7 @@ use Rattle.node_acts.specs.Said.{IsPlain}
 use Rattle.node_acts.specs.Views.{View}
 use Rattle.node_acts.proofs.OfCommits.{of_commit, commit_says, of_both}
 use Rattle.trace_nodes.proofs.Acts as each
-use Rattle.trace_nodes.proofs.Acts.{plain_says, unprinted_says, unreleased_says}
+use Rattle.trace_nodes.proofs.Acts.{plain_says}
 use Rattle.centre_ledger.specs.declared.{rows.Row.Row, taking.CentreAnswer.CentreAnswer}
 use Rattle.centre_ledger.specs.declared.taking.CentreAnswer.TheVariants as answer
 use Rattle.centre_ledger.specs.Acts as acts
@@ -22,8 +21,6 @@ use Rattle.centre_ledger.specs.Seen.{Seen, books_in, counting, IsKnown}
 use Rattle.bench_abstraction.specs.declared.calls.CentreCall.{CentreCall}
 use Rattle.bench_abstraction.specs.declared.calls.CentreCall.TheVariants as call
 use Rattle.bench_abstraction.specs.Centre.{centre_act}
-use Rattle.trace_nodes.specs.Judged.{PrintsNone}
-use Rattle.trace_nodes.specs.Giving.{released_as, ReleasesNone}
 use Rattle.trace_nodes.specs.TracedNodes.{FitsAct}
 use Rattle.trace_centre.specs.Placed.{PlacesAct}
 use Rattle.trace_centre.specs.Records.{IsFit, IsRanged}
@@ -49,10 +46,6 @@ took_did : (k : ℕ) (a : CentreAnswer) → class_of (told_taken k a).reply ≡ 
 took_did k (answer.Ruled d n v note again) = refl
 took_did k (answer.Settled d n again) = refl
 
-took_prints : (k : ℕ) (a : CentreAnswer) (j : ℕ) → (told_taken k a).reply ≢ r.Printed j
-took_prints k (answer.Ruled d n v note again) j is = cc
-took_prints k (answer.Settled d n again) j is = cc
-
 pub call_plain : (c : CentreCall) (b : Books) → IsPlain (centre_act c b)
 call_plain (call.Register c) b = plain_says _ _ (λ x. refl) (λ a. refl) (acts.register_act c.device c.origin c.key b)
 call_plain (call.Open c) b = plain_says _ _ (λ x. refl) (λ a. refl) (acts.open_act c.customer b)
@@ -60,27 +53,6 @@ call_plain (call.Deposit c) b = plain_says _ _ (λ x. refl) (λ x. refl) (acts.d
 call_plain (call.Flag c) b = plain_says _ _ (λ x. refl) (λ a. refl) (acts.flag_act c.customer c.suspended b)
 call_plain (call.Balance c) b = plain_says _ _ (λ x. refl) (λ a. refl) (acts.balance_act c.customer b)
 call_plain (call.Take c) b = plain_says _ _ (λ x. refl) (took_did c.message) (acts.take_act c.bytes b)
-
-pub call_prints : (c : CentreCall) (b : Books) → PrintsNone (centre_act c b)
-call_prints (call.Register c) b = unprinted_says _ _ (λ a j is. cc) (acts.register_act c.device c.origin c.key b)
-call_prints (call.Open c) b = unprinted_says _ _ (λ a j is. cc) (acts.open_act c.customer b)
-call_prints (call.Deposit c) b = unprinted_says _ _ (λ x j is. cc) (acts.deposit_act c.customer c.receipt c.amount b)
-call_prints (call.Flag c) b = unprinted_says _ _ (λ a j is. cc) (acts.flag_act c.customer c.suspended b)
-call_prints (call.Balance c) b = unprinted_says _ _ (λ a j is. cc) (acts.balance_act c.customer b)
-call_prints (call.Take c) b = unprinted_says _ _ (took_prints c.message) (acts.take_act c.bytes b)
-
--- it releases nothing
-took_releases : (k : ℕ) (a : CentreAnswer) → released_as (told_taken k a).given ≡ None
-took_releases k (answer.Ruled d n v note again) = refl
-took_releases k (answer.Settled d n again) = refl
-
-pub call_releases : (c : CentreCall) (b : Books) → ReleasesNone (centre_act c b)
-call_releases (call.Register c) b = unreleased_says _ _ (λ a. refl) (acts.register_act c.device c.origin c.key b)
-call_releases (call.Open c) b = unreleased_says _ _ (λ a. refl) (acts.open_act c.customer b)
-call_releases (call.Deposit c) b = unreleased_says _ _ (λ x. refl) (acts.deposit_act c.customer c.receipt c.amount b)
-call_releases (call.Flag c) b = unreleased_says _ _ (λ a. refl) (acts.flag_act c.customer c.suspended b)
-call_releases (call.Balance c) b = unreleased_says _ _ (λ a. refl) (acts.balance_act c.customer b)
-call_releases (call.Take c) b = unreleased_says _ _ (took_releases c.message) (acts.take_act c.bytes b)
 
 -- == the record after it ==
 

@@ -10,12 +10,12 @@ use crate::acts::{centre_act, places_act};
 use crate::record::CentreRecord;
 use bench_abstraction::CentreCall;
 use bench_abstraction::laws::nodes_follow;
-use bench_base::bytes::Note;
 use bench_base::events::Reply;
 use bench_base::numbers::DayNo;
 use bench_base::words::Node;
 use centre_ledger::{BooksOf, Row, acts_follow_the_commits};
 use node_acts::Asked;
+use node_turns::Tell;
 use trace_nodes::{Traced, judge_call, judge_cut, judge_off, judge_on};
 
 /// The rows of a record are ones that storage can show.
@@ -34,16 +34,16 @@ pub fn is_sound(kept: &CentreRecord)
 }
 
 // Judges by what is seen of the centre. Its record is one that storage can show, before and after a commit.
-fn judge_view(
+fn judge_view<T: Tell>(
     traced: &mut Traced<CentreRecord, Row>,
     day: DayNo,
     asked: &Asked<CentreCall>,
     line: &[u8],
-) -> Result<Option<Note>, Reply>
+) -> Result<T, Reply>
     requires settled { IsSettled traced.old }
     requires ranged { IsRangedAsked asked.now }
     ensures settled { IsSettled traced.new }
-    ensures judged { IsByView day asked.now line.now (view_of traced.old) (view_of traced.new) result }
+    ensures judged { IsByView T.IsOf day asked.now line.now (view_of traced.old) (view_of traced.new) result }
     ensures known { IsKnown (cells_of traced.old.record) }
     ensures next { IfSome (commit_in day asked.now (view_of traced.old)) (λ x. IsKnown x.1) }
 {
@@ -63,17 +63,17 @@ fn judge_view(
 }
 
 /// Judges the line of an event that asks this of the centre on that day: as `judge_device` of trace_device.
-pub fn judge_centre(
+pub fn judge_centre<T: Tell>(
     traced: &mut Traced<CentreRecord, Row>,
     day: DayNo,
     asked: &Asked<CentreCall>,
     line: &[u8],
-) -> Result<Option<Note>, Reply>
+) -> Result<T, Reply>
     requires settled { IsSettled traced.old }
     requires ranged { IsRangedAsked asked.now }
     ensures settled { IsSettled traced.new }
-    ensures by_view { IsByView day asked.now line.now (view_of traced.old) (view_of traced.new) result }
-    ensures by_ledger { IsByLedger day asked.now line.now (view_of traced.old) (view_of traced.new) result }
+    ensures by_view { IsByView T.IsOf day asked.now line.now (view_of traced.old) (view_of traced.new) result }
+    ensures by_ledger { IsByLedger T.IsOf day asked.now line.now (view_of traced.old) (view_of traced.new) result }
 {
     nodes_follow();
     judge_view(traced, day, asked, line)

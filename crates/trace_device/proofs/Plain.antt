@@ -1,6 +1,5 @@
--- The acts of a device's calls: which replies they may get, and what they print.
-use Rattle.std.proofs.Common.{◌≡◌, ◌≢◌, ℕ, ℤ, Option, refl}
-use Rattle.bench_base.specs.declared.events.Reply.TheVariants as r
+-- The acts of a device's calls: which replies they may get.
+use Rattle.std.proofs.Common.{◌≡◌, ℕ, ℤ, Option, refl}
 use Rattle.bench_base.specs.Replies.{Did, class_of}
 use Rattle.bench_base.specs.Rules.{todays_rules}
 use Rattle.node_acts.specs.Said.{IsPlain}
@@ -11,16 +10,11 @@ use Rattle.psd_state.specs.declared.acts.Taken.{Taken}
 use Rattle.psd_state.specs.declared.acts.Taken.TheVariants as taken
 use Rattle.bench_abstraction.specs.declared.{calls.DeviceCall.DeviceCall, calls.DeviceCall.TheVariants.Make, calls.DeviceCall.TheVariants.Debit, calls.DeviceCall.TheVariants.Ask, calls.DeviceCall.TheVariants.Resend, calls.DeviceCall.TheVariants.Ack, calls.DeviceCall.TheVariants.Status, calls.DeviceCall.TheVariants.Take}
 use Rattle.bench_abstraction.specs.Devices.{device_act, took}
-use Rattle.trace_nodes.specs.Judged.{PrintsNone}
-use Rattle.trace_nodes.proofs.Acts.{plain_says, unprinted_says}
+use Rattle.trace_nodes.proofs.Acts.{plain_says}
 
 took_did : (d k : ℕ) (a : Taken) → class_of (took d k a).reply ≡ Did
 took_did d k (taken.Applied n v) = refl
 took_did d k (taken.Released piece x again) = refl
-
-took_prints : (d k : ℕ) (a : Taken) (j : ℕ) → (took d k a).reply ≢ r.Printed j
-took_prints d k (taken.Applied n v) j is = cc
-took_prints d k (taken.Released piece x again) j is = cc
 
 pub call_plain : (d : ℕ) (today : ℤ) (call : DeviceCall) (s : Option State) → IsPlain (device_act d today call s)
 call_plain d today (Make c) s = plain_says _ _ (λ x. refl) (λ a. refl) (make_act d c.key s)
@@ -30,12 +24,3 @@ call_plain d today (Resend c) s = plain_says _ _ (λ x. refl) (λ a. refl) (rese
 call_plain d today (Ack c) s = plain_says _ _ (λ x. refl) (λ a. refl) (ack_act s)
 call_plain d today Status s = plain_says _ _ (λ x. refl) (λ a. refl) (status_act today s)
 call_plain d today (Take c) s = plain_says _ _ (λ x. refl) (took_did d c.message) (take_act todays_rules d c.bytes today s)
-
-pub call_prints : (d : ℕ) (today : ℤ) (call : DeviceCall) (s : Option State) → PrintsNone (device_act d today call s)
-call_prints d today (Make c) s = unprinted_says _ _ (λ a j is. cc) (make_act d c.key s)
-call_prints d today (Debit c) s = unprinted_says _ _ (λ a j is. cc) (debit_act todays_rules d (debit_by d c.piece c.postage c.class) today s)
-call_prints d today (Ask c) s = unprinted_says _ _ (λ a j is. cc) (ask_act todays_rules d c.kind c.customer c.amount today s)
-call_prints d today (Resend c) s = unprinted_says _ _ (λ a j is. cc) (resend_act s)
-call_prints d today (Ack c) s = unprinted_says _ _ (λ a j is. cc) (ack_act s)
-call_prints d today Status s = unprinted_says _ _ (λ a j is. cc) (status_act today s)
-call_prints d today (Take c) s = unprinted_says _ _ (took_prints d c.message) (take_act todays_rules d c.bytes today s)

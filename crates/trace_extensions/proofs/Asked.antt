@@ -17,19 +17,22 @@ use Rattle.line_extensions.specs.Trace.{StepRecord, done}
 use Rattle.line_extensions.specs.Desks.{World, world, Asks, Asked}
 use Rattle.line_extensions.specs.declared.{extension.Extension.Ghosts, extension.Next.Next, extension.Next.TheVariants.Step}
 use Rattle.script_replay.specs.Trace.{ledger_by}
+use Rattle.node_turns.specs.declared.turn.Turn.{Turn}
+use Rattle.trace_bench.specs.declared.judging.Judged.{Judged}
 use Rattle.trace_bench.specs.Judging.{IsJudged, taken_by}
 use Rattle.trace_bench.specs.Prefixes.{IsDue}
 use Rattle.trace_bench.specs.Seeing.{Audit, Sees}
 use Rattle.trace_runs.specs.Audits.{MayTell}
 use Rattle.trace_runs.proofs.One.{same_ledger, same_left}
 use Rattle.trace_extensions.specs.Places.{Place, place, turn_at, MayStep}
-use Rattle.trace_extensions.specs.Takes.{AtEachSeen, TakesAt, IsNodeFailure}
+use Rattle.trace_extensions.specs.Takes.{AtEachSeen, TakesAt}
 use Rattle.trace_extensions.specs.Worlds.{AuditWorld, audit_world, AskedOne, AskedSo}
 
 -- what is judged of a line is taken
-pub judged_line : (τ : Tariff) (H : Ledger) (e : Event) (line left left1 : List ℕ) (now : Audit) (used : ℕ) → Unforged e H → IsJudged τ H e left line now (Ok used) → left1 ≡ drop used left
-    → (d : StepRecord) × TakesAt τ H e line now left left1 d
-judged_line τ H e line left left1 now used free (reply, told, count) rest = (
+pub judged_line : {T : Type 0} (IsOf : T → Turn → Type 0) (τ : Tariff) (H : Ledger) (e : Event) (line left left1 : List ℕ) (now : Audit) (judged : Judged T) → Unforged e H
+    → IsJudged IsOf τ H e left line now (Ok judged) → left1 ≡ drop judged.taken left
+    → (d : StepRecord) × TakesAt τ H e line now left left1 d × IsOf judged.told (turn_at τ H d)
+judged_line IsOf τ H e line left left1 now judged free (reply, told, count, is) rest = (
   done e (taken_by e (day_in H) (class_of reply) left) reply [],
   record {
     event = refl;
@@ -38,60 +41,8 @@ judged_line τ H e line left left1 now used free (reply, told, count) rest = (
     sees = told.sees;
     left = rest ∙ ap (λ (n : ℕ). drop n left) count;
   },
+  is,
 )
-
--- an event that is no `rates` takes nothing of them
-takes_none : (e : Event) → e ≢ ev.Rates → takes_rates e ≡ false
-takes_none ev.Rates not_rates = absurd (not_rates refl)
-takes_none _ not_rates = refl
-
-nothing_taken : (e : Event) → e ≢ ev.Rates → (today : Option ℤ) (told : ReplyClass) (left : List ℕ) → taken_by e today told left ≡ []
-nothing_taken e not_rates today told left = ap (λ (b : Bool). if b && (is_some today && not (fails_to_read told)) then take 65537 left else []) (takes_none e not_rates)
-
--- a failure of a node shows all of itself
-failure_told : (m : Node) (f x : Reply) → (f ≡ r.Power m) ⊎ (f ≡ r.Fault m) → told x ≡ told f → x ≡ f
-failure_told m f x (inl is) same = power x (same ∙ ap told is) ∙ sym is
-  where
-    power : (x : Reply) → told x ≡ r.Power m → x ≡ r.Power m
-    power (r.ScanRefused y) is = cc
-    power _ is = is
-failure_told m f x (inr is) same = fault x (same ∙ ap told is) ∙ sym is
-  where
-    fault : (x : Reply) → told x ≡ r.Fault m → x ≡ r.Fault m
-    fault (r.ScanRefused y) is = cc
-    fault _ is = is
-
--- the reply that is heard of is a failure, or the one that is due
-abbrev pub IsHeard : Event → Reply → Reply → Type 0
-IsHeard e due reply = IsNodeFailure reply ⊎ (reply ≡ due)
-
--- a step for this event with this very reply
-abbrev pub StepWith : Tariff → Ledger → Event → List ℕ → List ℕ → Audit → Reply → Type 0
-StepWith τ H e left left1 now reply =
-    (d : StepRecord) × (d.event ≡ e) × (d.reply ≡ reply) × MayTell τ H left d × Sees now (ledger_by τ H d) × (left1 ≡ drop (length d.text) left)
-
-module _ (one : (x y : Reply) → IsWholeReply x → IsWholeReply y → text_of x ≡ text_of y → told x ≡ told y) (τ : Tariff) (H : Ledger) (e : Event) (whole : IsWholeEvent e)
-    (not_rates : e ≢ ev.Rates) (left left1 : List ℕ) (now : Audit) where
-  with_failure : (reply : Reply) → IsWholeReply reply → IsNodeFailure reply → (d : StepRecord) → TakesAt τ H e (text_of reply) now left left1 d → StepWith τ H e left left1 now reply
-  with_failure reply ranged (m, is) d t = (d, t.event, failure_told m reply d.reply is (one d.reply reply t.may.whole ranged t.text), t.may, t.sees, t.left)
-
-  with_due : (reply : Reply) → IsWholeReply reply → Unforged e H → IsDue τ H e left reply → (d : StepRecord) → TakesAt τ H e (text_of reply) now left left1 d → StepWith τ H e left left1 now reply
-  with_due reply ranged free due d t =
-      let same_answer = due ∙ ap (λ (t : List ℕ). answer τ todays_rules H e t) (nothing_taken e not_rates (day_in H) Did left ∙ sym (nothing_taken e not_rates (day_in H) (class_of reply) left)) in
-      let f = done e (taken_by e (day_in H) (class_of reply) left) reply [] in
-      let may : MayTell τ H left f = record { unforged = free; moves = (whole, inl same_answer); whole = ranged; takes = refl } in (
-        f,
-        refl,
-        refl,
-        may,
-        subst (λ (K : Ledger). Sees now K) (same_ledger one τ H left d f t.may may t.event t.text) t.sees,
-        t.left ∙ same_left one τ H left d f t.may may t.event t.text,
-      )
-
-  pub step_with : (due reply : Reply) → IsWholeReply reply → Unforged e H → IsDue τ H e left due → IsHeard e due reply → (d : StepRecord) → TakesAt τ H e (text_of reply) now left left1 d
-      → StepWith τ H e left left1 now reply
-  step_with due reply ranged free is (inl failure) d t = with_failure reply ranged failure d t
-  step_with due reply ranged free is (inr same) d t = with_due reply ranged free (same ∙ is) d t
 
 -- == steps one after the other ==
 
@@ -105,17 +56,17 @@ module _ {K T : Type 0} (k : Ghosts K T) (τ : Tariff) where
 
 module _ {K T : Type 0} (k : Ghosts K T) where
   -- one step, of which the extension heard
-  pub asked_one : (τ : Tariff) (H : Ledger) (e : Event) (left left1 : List ℕ) (new : Audit) (desk desk1 : K) (reply : Reply) (next : Next) (report : Option (List ℕ)) → History τ editions H
-      → (w : StepWith τ H e left left1 new reply) → k.Goes desk (turn_at τ H w.0) next desk1
+  pub asked_one : (τ : Tariff) (H : Ledger) (e : Event) (line left left1 : List ℕ) (new : Audit) (desk desk1 : K) (next : Next) (report : Option (List ℕ)) → History τ editions H
+      → (d : StepRecord) → TakesAt τ H e line new left left1 d → k.Goes desk (turn_at τ H d) next desk1
       → AskedOne k τ e (world (place H left) desk) (audit_world new left1 desk1 report) next
-  asked_one τ H e left left1 new desk desk1 reply next report history w goes = record {
-    d = w.0;
-    turn = turn_at τ H w.0;
-    new = world (place (ledger_by τ H w.0) left1) desk1;
-    event = w.1;
-    did = record { may = w.3; turn_is = refl; new_is = ap (λ (l : List ℕ). place (ledger_by τ H w.0) l) w.5 };
+  asked_one τ H e line left left1 new desk desk1 next report history d t goes = record {
+    d = d;
+    turn = turn_at τ H d;
+    new = world (place (ledger_by τ H d) left1) desk1;
+    event = t.event;
+    did = record { may = t.may; turn_is = refl; new_is = ap (λ (l : List ℕ). place (ledger_by τ H d) l) t.left };
     goes = goes;
-    seen = record { history = moves w.0.event w.0.text w.0.reply history w.3.unforged w.3.moves; sees = w.4; left = refl; desk = refl };
+    seen = record { history = moves d.event d.text d.reply history t.may.unforged t.may.moves; sees = t.sees; left = refl; desk = refl };
   }
 
   -- nothing was asked for yet

@@ -76,12 +76,12 @@ module _ {K T : Type 0} (k : Ghosts K T) (number : ℕ) (line : List ℕ) where
       subst (λ (o : SideStatus). Reported (Some o) (e ≢ ev.End) (e ≡ ev.End) ⊥ [] taken taken) (sym end.0) (end.1, Appends-nil taken)
 
   -- an event got an answer that the auditor took
-  pub heard : (audit0 audit1 : Audit) (left0 left1 : List ℕ) (desk desk1 : K) (report0 report1 : Option (List ℕ)) (taken : Option (List ℕ)) (e : Event) (answer : List ℕ) (outcome : Option SideStatus)
-      → keeps audit1 ≡ keeps audit0 → IsLineOf e line → k.Passes desk line → desk1 ≡ desk → ((x : K) (e : Event) (turn : Turn) → k.Sees x e turn x)
-      → TakesLine e answer audit0 audit1 left0 left1 → Consumes report0 report1 (ended answer)
+  pub heard : {A : Type 0} (IsOf : A → Turn → Type 0) (told : A) (audit0 audit1 : Audit) (left0 left1 : List ℕ) (desk desk1 : K) (report0 report1 : Option (List ℕ)) (taken : Option (List ℕ)) (e : Event) (answer : List ℕ) (outcome : Option SideStatus)
+      → keeps audit1 ≡ keeps audit0 → IsLineOf e line → k.Passes desk line → ((turn : Turn) → IsOf told turn → k.Sees desk e turn desk1)
+      → TakesLine IsOf told e answer audit0 audit1 left0 left1 → Consumes report0 report1 (ended answer)
       → IfNone outcome (e ≢ ev.End) → IfSome outcome (λ s. (s ≡ Run status.Done) × (e ≡ ev.End))
       → End outcome (audit_world audit0 left0 desk report0) (audit_world audit1 left1 desk1 report1) taken taken
-  heard audit0 audit1 left0 left1 desk desk1 report0 report1 taken e answer outcome kept is passes same unmoved takes read goes end = LineEnd.did (record {
+  heard IsOf told audit0 audit1 left0 left1 desk desk1 report0 report1 taken e answer outcome kept is passes sees_it takes read goes end = LineEnd.did (record {
     trace_step = Heard line e answer;
     line_is = refl;
     is = is;
@@ -93,7 +93,7 @@ module _ {K T : Type 0} (k : Ghosts K T) (number : ℕ) (line : List ℕ) where
           let d = w.0 in
           let t = w.1 in (
             d,
-            world (place (ledger_by τ H d) left1) desk,
+            world (place (ledger_by τ H d) left1) desk1,
             record {
               event = t.event;
               text = t.text;
@@ -101,10 +101,10 @@ module _ {K T : Type 0} (k : Ghosts K T) (number : ℕ) (line : List ℕ) where
                 passes = passes;
                 turn = turn_at τ H d;
                 did = record { may = t.may; turn_is = refl; new_is = ap (λ (l : List ℕ). place (ledger_by τ H d) l) t.left };
-                sees = unmoved desk d.event (turn_at τ H d);
+                sees = subst (λ (x : Event). k.Sees desk x (turn_at τ H d) desk1) (sym t.event) (sees_it (turn_at τ H d) w.2);
               };
             },
-            record { history = moves d.event d.text d.reply history t.may.unforged t.may.moves; sees = t.sees; left = refl; desk = sym same },
+            record { history = moves d.event d.text d.reply history t.may.unforged t.may.moves; sees = t.sees; left = refl; desk = refl },
           );
     };
     reported = ended_reported e outcome taken goes end;

@@ -5,6 +5,5 @@ pub mod Sides
 pub mod Takes
 -- Private calls and proofs alone name these.
 pub mod AuditLaws
-pub mod Messages
 pub mod Steps
 pub mod Worlds

@@ -1,7 +1,6 @@
 -- What an auditor takes: at each history that it sees, something may have been done, and it then sees what that leaves.
-use Rattle.std.specs.Prelude.{◌≡◌, ◌⊎◌, ℕ, List, length, drop}
-use Rattle.bench_base.specs.declared.{words.Node.Node, events.Event.Event, events.Reply.Reply}
-use Rattle.bench_base.specs.declared.events.Reply.TheVariants as r
+use Rattle.std.specs.Prelude.{◌≡◌, ℕ, List, length, drop}
+use Rattle.bench_base.specs.declared.{events.Event.Event, events.Reply.Reply}
 use Rattle.bench_base.specs.Ledger.{Ledger}
 use Rattle.bench_base.specs.Rules.{editions}
 use Rattle.bench_abstraction.specs.Tariff.{IsOfTexts}
@@ -13,6 +12,8 @@ use Rattle.script_replay.specs.Trace.{ledger_by}
 use Rattle.trace_bench.specs.Prefixes.{IsDue}
 use Rattle.trace_bench.specs.Seeing.{Audit, Sees}
 use Rattle.trace_runs.specs.Audits.{MayTell}
+use Rattle.node_turns.specs.declared.turn.Turn.{Turn}
+use Rattle.trace_extensions.specs.Places.{turn_at}
 
 -- P of each history that the auditor has, by a tariff of texts
 abbrev pub AtEachSeen : Audit → (Tariff → Ledger → Type 0) → Type 0
@@ -26,13 +27,10 @@ pub record TakesAt (τ : Tariff) (H : Ledger) (e : Event) (line : List ℕ) (new
   pub sees : Sees new (ledger_by τ H d)
   pub left : left1 ≡ drop (length d.text) left0
 
--- THE LINE IS TAKEN for the answer to the event
-abbrev pub TakesLine : Event → List ℕ → Audit → Audit → List ℕ → List ℕ → Type 0
-TakesLine e line old new left0 left1 = AtEachSeen old (λ τ H. (d : StepRecord) × TakesAt τ H e line new left0 left1 d)
-
--- the reply is that of a node that failed
-abbrev pub IsNodeFailure : Reply → Type 0
-IsNodeFailure reply = (m : Node) × ((reply ≡ r.Power m) ⊎ (reply ≡ r.Fault m))
+-- THE LINE IS TAKEN for the answer to the event, and this reports its turn
+abbrev pub TakesLine : {T : Type 0} → (T → Turn → Type 0) → T → Event → List ℕ → Audit → Audit → List ℕ → List ℕ → Type 0
+TakesLine IsOf told e line old new left0 left1 =
+    AtEachSeen old (λ τ H. (d : StepRecord) × TakesAt τ H e line new left0 left1 d × IsOf told (turn_at τ H d))
 
 -- this answer is due to the event, and the auditor sees what it saw
 abbrev pub IsDueAt : Event → Reply → List ℕ → Audit → Audit → Type 0

@@ -1,12 +1,10 @@
 //! The steps that an extension asks for, taken from what the report has for its line.
-ghost use Rattle.std.specs.Prelude.{true, ◌≡◌, ◌≢◌, ◌+◌, ◌<◌, ◌≤◌, length, None, IfOk};
+ghost use Rattle.std.specs.Prelude.{◌≡◌, ◌+◌, ◌<◌, ◌≤◌, length, None, IfOk};
 ghost use Rattle.bench_base.specs.Events.{IsWholeEvent};
-ghost use Rattle.bench_base.specs.declared.events.Event.TheVariants as ev;
 ghost use Rattle.bench.specs.declared.benches.TheConstants.{MOST_MESSAGES};
 ghost use Rattle.line_extensions.specs.Desks.{world};
 ghost use Rattle.line_extensions.specs.Wants.{MayAsk, IsStep};
 ghost use Rattle.trace_bench.specs.Seeing.{IsReady, audit_of, keeps};
-ghost use Rattle.trace_extensions.specs.Messages.{IsAsked, IsSentLast};
 ghost use Rattle.trace_extensions.specs.Places.{place};
 ghost use Rattle.trace_extensions.specs.Rates.{left_of};
 ghost use Rattle.trace_extensions.specs.Takes.{AtEachSeen};
@@ -15,49 +13,12 @@ ghost use Rattle.trace_extensions.specs.Worlds.{AskedSo, AskedOne, audit_world};
 use crate::extension::TracedExtension;
 use crate::rates::RatesLeft;
 use crate::taking::{Miss, due_reply, take};
-use bench_base::bytes::Note;
+use crate::transcript::Transcript;
 use bench_base::events::Event;
 use line_extensions::{Extension, Next};
-use script_text::laws::one_reply;
 use script_text::write_reply;
 use std::alloc::Global;
 use trace_bench::Auditor;
-
-fn is_scan(event: &Event) -> bool
-    ensures { result ≡ true → IsAsked event.now }
-{
-    let Event::ScanHex { .. } = event else {
-        return false;
-    };
-    true
-}
-
-fn is_send(event: &Event) -> bool
-    ensures { result ≡ true → IsAsked event.now }
-{
-    let Event::Send(_) = event else {
-        return false;
-    };
-    true
-}
-
-// Whether an extension may ask for the event: a scan of bytes, or the message of a job.
-fn is_asked(event: &Event) -> bool
-    ensures { result ≡ true → IsAsked event.now }
-{
-    is_scan(event) || is_send(event)
-}
-
-// The message that was sent since there were so many.
-fn sent_since(auditor: &Auditor, count: usize) -> Option<Note>
-    ensures { IsSentLast count (audit_of auditor.now).messages result }
-{
-    if auditor.message_count() == count {
-        None
-    } else {
-        auditor.last_message()
-    }
-}
 
 // Takes the step of this number: its reply is the failure that the line of the report has for it, or the one that is due.
 fn ask_one<D: TracedExtension>(
@@ -68,9 +29,9 @@ fn ask_one<D: TracedExtension>(
     step: u32,
     event: &Event,
     line: &[u8],
+    transcript: &mut Transcript,
 ) -> Result<Next, Miss>
     requires whole { IsWholeEvent event.now }
-    requires not_rates { event.now ≢ ev.Rates }
     requires ready { IsReady (audit_of auditor.old) }
     requires few { length (audit_of auditor.old).messages < MOST_MESSAGES }
     ensures ready { IsReady (audit_of auditor.new) }
@@ -81,12 +42,6 @@ fn ask_one<D: TracedExtension>(
     ensures asked { IfOk result (λ next. AtEachSeen (audit_of auditor.old) (λ τ H. AskedOne ⟦<D as Extension>⟧ τ event.now
         (world (place H (left_of rates.old)) desk.old) (audit_world (audit_of auditor.new) (left_of rates.new) desk.new None) next)) }
 {
-    one_reply();
-    // No extension asks for another event.
-    if !is_asked(event) {
-        return Err(Miss::Memory);
-    }
-    let count = auditor.message_count();
     let due = match due_reply(alloc, auditor, rates, event) {
         Ok(due) => due,
         Err(miss) => return Err(miss),
@@ -97,7 +52,10 @@ fn ask_one<D: TracedExtension>(
     };
     let text = write_reply(&reply);
     match take(alloc, auditor, rates, event, text.as_slice()) {
-        Ok(()) => Ok(desk.go_on(&D::hear(&reply, sent_since(auditor, count)))),
+        Ok(told) => {
+            transcript.step(event, &text);
+            Ok(desk.go_on(&told))
+        }
         Err(miss) => Err(miss),
     }
 }
@@ -110,6 +68,7 @@ pub(crate) fn ask_all<D: TracedExtension>(
     desk: &mut D,
     first: Next,
     line: &[u8],
+    transcript: &mut Transcript,
 ) -> Result<Next, Miss>
     requires may { MayAsk first (D.left desk.old) }
     requires ready { IsReady (audit_of auditor.old) }
@@ -130,7 +89,9 @@ pub(crate) fn ask_all<D: TracedExtension>(
             return Err(Miss::Memory);
         }
         number = number.saturating_add(1);
-        match ask_one(alloc, auditor, rates, desk, number, &event, line) {
+        match ask_one(
+            alloc, auditor, rates, desk, number, &event, line, transcript,
+        ) {
             Ok(more) => next = more,
             Err(miss) => return Err(miss),
         }

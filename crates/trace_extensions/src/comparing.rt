@@ -36,7 +36,14 @@ fn compare_next<R: Source>(papers: &mut Papers<R>, text: &[u8]) -> Compared
                 Compared::Other
             }
         }
-        LineRead::Line(_, false) | LineRead::End => Compared::Open,
+        LineRead::Line(len, false) => {
+            if text.starts_with(&buf[..len as usize]) {
+                Compared::Open
+            } else {
+                Compared::Other
+            }
+        }
+        LineRead::End => Compared::Open,
         LineRead::Long => Compared::Other,
         LineRead::Fault => Compared::Fault,
     }
@@ -53,7 +60,8 @@ fn is_same<R: Source>(number: u32, papers: &mut Papers<R>, text: Line, compared:
             papers.due = text;
             papers.end(SideVerdict::Wrong(number));
         }
-        Compared::Open => papers.end(SideVerdict::StoppedInOwn(number)),
+        // All was done: the answer is begun.
+        Compared::Open => papers.end(SideVerdict::Stopped(number)),
         Compared::Fault => papers.end(SideVerdict::Unread(Input::Report)),
     }
     false
@@ -98,4 +106,26 @@ pub(crate) fn answer_fits<D: Extension, R: Source>(
         return false;
     }
     rest_fits(number, desk, papers)
+}
+
+// Ends the audit at an own line of this number, where the report ends with this prefix of its answer, and nothing is in doubt: all was done.
+pub(crate) fn answer_begins<D: Extension, R: Source>(
+    number: u32,
+    desk: &D,
+    prefix: &[u8],
+    papers: &mut Papers<R>,
+)
+    ensures report { papers.new.report ≡ papers.old.report }
+{
+    if desk.count() == 0 {
+        return papers.end(SideVerdict::Wrong(number));
+    }
+    let mut text = Line::new();
+    desk.put(0, &mut text);
+    if text.as_slice().starts_with(prefix) {
+        papers.end(SideVerdict::Stopped(number));
+    } else {
+        papers.due = text;
+        papers.end(SideVerdict::Wrong(number));
+    }
 }

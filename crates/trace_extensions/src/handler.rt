@@ -17,7 +17,7 @@ ghost use Rattle.line_extensions.specs.Wants.{MayAsk};
 ghost use Rattle.line_runs.specs.Turns.{LineEnd};
 
 use crate::asking::ask_all;
-use crate::comparing::answer_fits;
+use crate::comparing::{answer_begins, answer_fits};
 use crate::extension::TracedExtension;
 use crate::papers::{Papers, SideVerdict};
 use crate::plain::{answer, miss};
@@ -62,7 +62,15 @@ fn own_fits<R: Source, D: TracedExtension>(
     ensures fits { result ≡ true → (rest : List ℕ) × (flat_map ended (D.texts desk.new) ≡ ended answer.now ++ rest)
         × Consumes (⟦<ReadAhead<R> as Source>⟧.left papers.old.report) (⟦<ReadAhead<R> as Source>⟧.left papers.new.report) rest }
 {
-    match ask_all(alloc, auditor, rates, desk, first, answer) {
+    match ask_all(
+        alloc,
+        auditor,
+        rates,
+        desk,
+        first,
+        answer,
+        &mut papers.transcript,
+    ) {
         Err(why) => {
             miss(papers, number, why);
             false
@@ -72,6 +80,42 @@ fn own_fits<R: Source, D: TracedExtension>(
             papers.end(SideVerdict::Memory);
             false
         }
+    }
+}
+
+// Ends the audit at an own line of this number, where the report ends with this prefix of its answer.
+fn own_begun<R: Source, D: TracedExtension>(
+    alloc: Global,
+    number: u32,
+    first: Next,
+    prefix: &[u8],
+    desk: &mut D,
+    auditor: &mut Auditor,
+    rates: &mut RatesLeft,
+    papers: &mut Papers<R>,
+)
+    requires may { MayAsk first (D.left desk.old) }
+    requires ready { IsReady (audit_of auditor.old) }
+    requires few { length (audit_of auditor.old).messages < MOST_MESSAGES }
+    ensures ready { IsReady (audit_of auditor.new) }
+    ensures few { length (audit_of auditor.new).messages ≤ length (audit_of auditor.old).messages + 1 }
+    ensures kept { keeps (audit_of auditor.new) ≡ keeps (audit_of auditor.old) }
+{
+    if D::is_in_doubt(&first, prefix) {
+        return papers.end(SideVerdict::StoppedInOwn(number));
+    }
+    match ask_all(
+        alloc,
+        auditor,
+        rates,
+        desk,
+        first,
+        prefix,
+        &mut papers.transcript,
+    ) {
+        Err(why) => miss(papers, number, why),
+        Ok(Next::Say) => answer_begins(number, desk, prefix, papers),
+        Ok(Next::Stop | Next::Step(_)) => papers.end(SideVerdict::Memory),
     }
 }
 
@@ -111,7 +155,17 @@ fn own_line<R: Source, D: TracedExtension>(
                 papers,
             );
         }
-        LineRead::Line(_, false) | LineRead::End => papers.end(SideVerdict::StoppedInOwn(number)),
+        LineRead::Line(len, false) => own_begun(
+            alloc,
+            number,
+            first,
+            &buf[..len as usize],
+            desk,
+            auditor,
+            rates,
+            papers,
+        ),
+        LineRead::End => own_begun(alloc, number, first, &[], desk, auditor, rates, papers),
         LineRead::Long => papers.end(SideVerdict::Wrong(number)),
         LineRead::Fault => papers.end(SideVerdict::Unread(Input::Report)),
     }
@@ -158,6 +212,7 @@ impl<R: Source, D: TracedExtension> LineHandler for AtReport<R, D> {
         _report: &mut K,
     ) -> Option<SideStatus> {
         papers.line = number;
+        papers.transcript.begin(number);
         if is_skipped(line) {
             return None;
         }
@@ -176,9 +231,15 @@ impl<R: Source, D: TracedExtension> LineHandler for AtReport<R, D> {
             }
             Ok(None) => match &read_event(line) {
                 Ok(event) => {
+                    papers.transcript.event(line);
                     let mut buf = [0; 600];
-                    match answer(alloc, auditor, rates, papers, number, event, &mut buf) {
-                        Some(_) => ended_by(event),
+                    match answer::<D::Heard, R>(
+                        alloc, auditor, rates, papers, number, event, &mut buf,
+                    ) {
+                        Some(answered) => {
+                            desk.see(event, &answered.told);
+                            ended_by(event)
+                        }
                         None => Some(SideStatus::Stopped),
                     }
                 }

@@ -9,11 +9,17 @@ mod papers;
 mod plain;
 mod rates;
 mod run;
+mod said;
 mod taking;
+mod transcript;
 mod words;
 
 pub use extension::TracedExtension;
 pub use papers::{Papers, SideVerdict};
 pub use rates::RatesLeft;
 pub use run::judge_side;
-pub use words::{AuditedClaims, AuditedDepartments, blank_claims, blank_departments, no_manifest};
+pub use said::said_of;
+pub use transcript::Transcript;
+pub use words::{
+    AuditedClaims, AuditedDepartments, blank_claims, blank_departments, no_manifest, no_statement,
+};

@@ -1,6 +1,7 @@
 //! What an audit reads beside the script of a run, and what it finds.
 ghost use Rattle.std.specs.Prelude.{◌≡◌};
 
+use crate::transcript::Transcript;
 use bench_base::stream::Source;
 use script_text::Line;
 use text_streams::ReadAhead;
@@ -11,9 +12,10 @@ use trace_runs::{Ending, Imprint, Input};
 pub enum SideVerdict {
     /// Each line may have got the answer that the report has for it, and the report ends as the script does.
     Lawful(Ending),
-    /// So far as for `Lawful`; but the report ends before the line end of the answer to this line, which is that of an event.
+    /// So far as for `Lawful`; but the report ends before the line end of the answer to this line.
     Stopped(u32),
-    /// The same, of an own line. What was done for it is not known, so no later run is judged.
+    /// The same, of an own line of which it is not known what was done: the report has nothing of its answer, or a failure of a node begins so. No
+    /// later run is judged.
     StoppedInOwn(u32),
     /// The report has another answer to this line than those that it may get.
     Wrong(u32),
@@ -43,11 +45,13 @@ pub struct Papers<R: Source> {
     pub verdict: SideVerdict,
     /// The answer that was due there.
     pub due: Line,
+    /// The events that were taken, if they are to be kept.
+    pub transcript: Transcript,
 }
 
 impl<R: Source> Papers<R> {
     /// Of a report of which nothing was read.
-    pub fn new(report: ReadAhead<R>, imprints: Vec<Imprint>) -> Papers<R>
+    pub fn new(report: ReadAhead<R>, imprints: Vec<Imprint>, transcript: Transcript) -> Papers<R>
         ensures { result.report ≡ report }
     {
         Papers {
@@ -57,6 +61,7 @@ impl<R: Source> Papers<R> {
             answers: 0,
             verdict: SideVerdict::Memory,
             due: Line::new(),
+            transcript,
         }
     }
 

@@ -1,5 +1,5 @@
 //! The line of an event that the extension leaves to the bench.
-ghost use Rattle.std.specs.Prelude.{◌≡◌, ◌+◌, ◌<◌, ◌≤◌, true, length, take, IfSome};
+ghost use Rattle.std.specs.Prelude.{◌≡◌, ◌+◌, ◌<◌, ◌≤◌, length, take, IfSome};
 ghost use Rattle.std.specs.Io.KnownBytes.{Consumes};
 ghost use Rattle.bench_base.specs.Events.{IsWholeEvent};
 ghost use Rattle.bench.specs.declared.benches.TheConstants.{MOST_MESSAGES};
@@ -14,6 +14,7 @@ use crate::taking::{Miss, admit, take};
 use bench_base::events::Event;
 use bench_base::stream::Source;
 use line_runs::lines::{LineRead, read_line};
+use node_turns::Tell;
 use script_text::write_reply;
 use std::alloc::Global;
 use text_streams::ReadAhead;
@@ -65,14 +66,17 @@ fn stopped<R: Source>(
         return miss(papers, number, why);
     }
     match stop(alloc, auditor, event, rates.left(), prefix) {
-        Ok(_) => papers.end(SideVerdict::Stopped(number)),
+        Ok(_) => {
+            papers.transcript.break_off(prefix);
+            papers.end(SideVerdict::Stopped(number));
+        }
         Err(Finding::Wrong(due)) => miss(papers, number, Miss::Wrong(due)),
         Err(Finding::Memory) => papers.end(SideVerdict::Memory),
     }
 }
 
-// Takes this line of the report for the answer to the event of the line of this number: whether it was taken.
-fn heard<R: Source>(
+// Takes this line of the report for the answer to the event of the line of this number: its turn. None if the audit ends.
+fn heard<T: Tell, R: Source>(
     alloc: Global,
     auditor: &mut Auditor,
     rates: &mut RatesLeft,
@@ -80,7 +84,7 @@ fn heard<R: Source>(
     number: u32,
     event: &Event,
     line: &[u8],
-) -> bool
+) -> Option<T>
     requires whole { IsWholeEvent event.now }
     requires ready { IsReady (audit_of auditor.old) }
     requires few { length (audit_of auditor.old).messages < MOST_MESSAGES }
@@ -88,23 +92,36 @@ fn heard<R: Source>(
     ensures few { length (audit_of auditor.new).messages ≤ length (audit_of auditor.old).messages + 1 }
     ensures kept { keeps (audit_of auditor.new) ≡ keeps (audit_of auditor.old) }
     ensures report { papers.new.report ≡ papers.old.report }
-    ensures takes { result ≡ true → TakesLine event.now line.now (audit_of auditor.old) (audit_of auditor.new) (left_of rates.old) (left_of rates.new) }
+    ensures takes { IfSome result (λ told. TakesLine T.IsOf told event.now line.now (audit_of auditor.old) (audit_of auditor.new)
+        (left_of rates.old) (left_of rates.new)) }
 {
     let given = given_in(event, due_mark(auditor, event), line);
-    if let Err(why) = take(alloc, auditor, rates, event, line) {
-        miss(papers, number, why);
-        return false;
+    match take(alloc, auditor, rates, event, line) {
+        Err(why) => {
+            miss(papers, number, why);
+            None
+        }
+        Ok(told) => {
+            papers.transcript.reply(line);
+            papers.answers = papers.answers.saturating_add(1);
+            if keep(&mut papers.imprints, number, given).is_err() {
+                papers.end(SideVerdict::Memory);
+                return None;
+            }
+            Some(told)
+        }
     }
-    papers.answers = papers.answers.saturating_add(1);
-    if keep(&mut papers.imprints, number, given).is_err() {
-        papers.end(SideVerdict::Memory);
-        return false;
-    }
-    true
 }
 
-// Reads the answer that the report has for the event of the line of this number into the buffer, and takes it: how long it is. None if the audit ends.
-pub(crate) fn answer<R: Source>(
+/// The answer that the report has for an event: its length, in bytes, and the turn.
+#[derive(Drop)]
+pub(crate) struct Answered<T> {
+    pub len: u16,
+    pub told: T,
+}
+
+// Reads the answer that the report has for the event of the line of this number into the buffer, and takes it. None if the audit ends.
+pub(crate) fn answer<T: Tell, R: Source>(
     alloc: Global,
     auditor: &mut Auditor,
     rates: &mut RatesLeft,
@@ -112,46 +129,42 @@ pub(crate) fn answer<R: Source>(
     number: u32,
     event: &Event,
     buf: &mut [u8; 600],
-) -> Option<u16>
+) -> Option<Answered<T>>
     requires whole { IsWholeEvent event.now }
     requires ready { IsReady (audit_of auditor.old) }
     requires few { length (audit_of auditor.old).messages < MOST_MESSAGES }
     ensures ready { IsReady (audit_of auditor.new) }
     ensures few { length (audit_of auditor.new).messages ≤ length (audit_of auditor.old).messages + 1 }
     ensures kept { keeps (audit_of auditor.new) ≡ keeps (audit_of auditor.old) }
-    ensures heard { IfSome result (λ len. TakesLine event.now (take len buf.new) (audit_of auditor.old) (audit_of auditor.new) (left_of rates.old)
-        (left_of rates.new)
-        × Consumes (⟦<ReadAhead<R> as Source>⟧.left papers.old.report) (⟦<ReadAhead<R> as Source>⟧.left papers.new.report) (ended (take len buf.new))) }
+    ensures heard { IfSome result (λ x. TakesLine T.IsOf x.told event.now (take x.len buf.new) (audit_of auditor.old) (audit_of auditor.new)
+        (left_of rates.old) (left_of rates.new)
+        × Consumes (⟦<ReadAhead<R> as Source>⟧.left papers.old.report) (⟦<ReadAhead<R> as Source>⟧.left papers.new.report)
+        (ended (take x.len buf.new))) }
 {
     match read_line(&mut papers.report, buf) {
         LineRead::Line(len, true) => {
-            if heard(
-                alloc,
-                auditor,
-                rates,
-                papers,
-                number,
-                event,
-                &buf[..len as usize],
-            ) {
-                return Some(len);
+            let line = &buf[..len as usize];
+            match heard(alloc, auditor, rates, papers, number, event, line) {
+                Some(told) => Some(Answered { len, told }),
+                None => None,
             }
-            return None;
         }
         LineRead::Line(len, false) => {
-            stopped(
-                alloc,
-                auditor,
-                rates,
-                papers,
-                number,
-                event,
-                &buf[..len as usize],
-            );
+            let prefix = &buf[..len as usize];
+            stopped(alloc, auditor, rates, papers, number, event, prefix);
+            None
         }
-        LineRead::End => stopped(alloc, auditor, rates, papers, number, event, &[]),
-        LineRead::Long => stopped(alloc, auditor, rates, papers, number, event, &buf[..]),
-        LineRead::Fault => papers.end(SideVerdict::Unread(Input::Report)),
+        LineRead::End => {
+            stopped(alloc, auditor, rates, papers, number, event, &[]);
+            None
+        }
+        LineRead::Long => {
+            stopped(alloc, auditor, rates, papers, number, event, &buf[..]);
+            None
+        }
+        LineRead::Fault => {
+            papers.end(SideVerdict::Unread(Input::Report));
+            None
+        }
     }
-    None
 }

@@ -10,6 +10,7 @@ ghost use Rattle.trace_extensions.specs.Takes.{TakesLine, IsDueAt};
 
 use crate::rates::RatesLeft;
 use bench_base::events::{Event, Reply};
+use node_turns::Tell;
 use std::alloc::Global;
 use trace_bench::{Auditor, Finding, due_to, index, is_forged, judge};
 
@@ -41,21 +42,22 @@ pub(crate) fn admit(alloc: Global, auditor: &mut Auditor, event: &Event) -> Resu
     }
 }
 
-// Takes this line for the answer to the event.
-pub(crate) fn take(
+// Takes this line for the answer to the event: its turn.
+pub(crate) fn take<T: Tell>(
     alloc: Global,
     auditor: &mut Auditor,
     rates: &mut RatesLeft,
     event: &Event,
     line: &[u8],
-) -> Result<(), Miss>
+) -> Result<T, Miss>
     requires whole { IsWholeEvent event.now }
     requires ready { IsReady (audit_of auditor.old) }
     requires few { length (audit_of auditor.old).messages < MOST_MESSAGES }
     ensures ready { IsReady (audit_of auditor.new) }
     ensures few { length (audit_of auditor.new).messages ≤ length (audit_of auditor.old).messages + 1 }
     ensures kept { keeps (audit_of auditor.new) ≡ keeps (audit_of auditor.old) }
-    ensures takes { OnOk result (TakesLine event.now line.now (audit_of auditor.old) (audit_of auditor.new) (left_of rates.old) (left_of rates.new)) }
+    ensures takes { IfOk result (λ told. TakesLine T.IsOf told event.now line.now (audit_of auditor.old) (audit_of auditor.new)
+        (left_of rates.old) (left_of rates.new)) }
 {
     match admit(alloc, auditor, event) {
         Ok(()) => {}
@@ -64,12 +66,12 @@ pub(crate) fn take(
     match judge(alloc, auditor, event, rates.left(), line) {
         Err(Finding::Wrong(due)) => Err(Miss::Wrong(due)),
         Err(Finding::Memory) => Err(Miss::Memory),
-        Ok(used) => {
-            if used > rates.left().len() {
+        Ok(judged) => {
+            if judged.taken > rates.left().len() {
                 return Err(Miss::Memory);
             }
-            rates.pass(used);
-            Ok(())
+            rates.pass(judged.taken);
+            Ok(judged.told)
         }
     }
 }

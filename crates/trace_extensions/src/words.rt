@@ -1,22 +1,24 @@
-//! The words of the runs that can be judged so: claims, departments and manifests.
-ghost use Rattle.std.specs.Prelude.{◌≡◌, refl, IfSome, None, false, replicate};
+//! The words of the runs that can be judged so: claims, departments, manifests and statements.
+ghost use Rattle.std.specs.Prelude.{◌≡◌, IfSome, None, false, replicate};
+ghost use Rattle.centre_statement.specs.Desk.{fresh, view_of};
 ghost use Rattle.host_departments.specs.Fresh.{KeepsNone as NoDepartments};
 ghost use Rattle.mail_manifest.specs.View.{listing_of};
 ghost use Rattle.nv_model.specs.Moments.{Only};
 ghost use Rattle.spoil_claims.specs.Fresh.{KeepsNone};
-ghost use Rattle.trace_extensions.specs.Takes.{IsNodeFailure};
 
 use crate::extension::TracedExtension;
-use bench_base::bytes::Note;
 use bench_base::events::Reply;
 use bench_base::words::Node;
-use host_departments::{CELLS, DEPARTMENT_BYTES, Departments, Heard};
+use centre_statement::StatementDesk;
+use host_departments::{CELLS, DEPARTMENT_BYTES, Departments};
+use line_extensions::Next;
 use mail_manifest::Checker;
 use nv_model::{MemNv, Nv};
 use nv_store::Room;
 use script_words::Line;
 use spoil_claims::{CLAIM_BYTES, CLAIM_CELLS, Desk};
 use std::alloc::Global;
+use trace_bench::begins;
 use trace_nodes::is_told;
 
 /// The room of the record of that storage, in calls. A start reads twice a cell, and each claim is committed twice at most.
@@ -70,6 +72,13 @@ pub fn blank_departments(alloc: Global) -> Option<AuditedDepartments>
     }
 }
 
+/// A desk without a statement, which has seen nothing: for the audit of one run.
+pub fn no_statement(alloc: Global) -> StatementDesk
+    ensures { view_of result ≡ fresh }
+{
+    StatementDesk::new(alloc)
+}
+
 /// A checker with no manifest: for the audit of one run.
 pub fn no_manifest() -> Checker
     ensures none { listing_of result ≡ None }
@@ -78,9 +87,7 @@ pub fn no_manifest() -> Checker
 }
 
 // The failure of this node that this text reports, if it does.
-fn failure_of(node: &Node, text: &[u8]) -> Option<Reply>
-    ensures { IfSome result IsNodeFailure }
-{
+fn failure_of(node: &Node, text: &[u8]) -> Option<Reply> {
     let power = Reply::Power(*node);
     if is_told(&power, text) {
         return Some(power);
@@ -92,43 +99,43 @@ fn failure_of(node: &Node, text: &[u8]) -> Option<Reply>
     None
 }
 
+// Whether a failure of this node begins so.
+fn begins_failure(node: &Node, prefix: &[u8]) -> bool {
+    begins(&Reply::Power(*node), prefix) || begins(&Reply::Fault(*node), prefix)
+}
+
 /// Its one step is a scan, so the answer to a claim may be a failure of the verifier.
 impl<N: Nv> TracedExtension for Desk<N> {
-    ghost unmoved = { λ x e turn. refl };
-
-    fn hear(reply: &Reply, _sent: Option<Note>) -> Reply {
-        *reply
-    }
-
     fn failure(_step: u32, line: &[u8]) -> Option<Reply> {
         failure_of(&Node::Verifier, line)
+    }
+
+    // A line without a step commits nothing.
+    fn is_in_doubt(first: &Next, prefix: &[u8]) -> bool {
+        match first {
+            Next::Step(_) => begins_failure(&Node::Verifier, prefix),
+            Next::Say | Next::Stop => false,
+        }
     }
 }
 
 /// Their one step is the message of a job, so the answer to an assignment may be a failure of the host.
 impl<N: Nv> TracedExtension for Departments<N> {
-    ghost unmoved = { λ x e turn. refl };
-
-    fn hear(reply: &Reply, sent: Option<Note>) -> Heard {
-        Heard {
-            reply: *reply,
-            sent,
-        }
-    }
-
     fn failure(_step: u32, line: &[u8]) -> Option<Reply> {
         failure_of(&Node::Host, line)
+    }
+
+    // A quota is committed without a step.
+    fn is_in_doubt(first: &Next, prefix: &[u8]) -> bool {
+        match first {
+            Next::Step(_) => begins_failure(&Node::Host, prefix),
+            Next::Say | Next::Stop => prefix.is_empty(),
+        }
     }
 }
 
 /// Each step is the scan of a piece, so the answer to a check may report a failure of the verifier at that piece.
 impl TracedExtension for Checker {
-    ghost unmoved = { λ x e turn. refl };
-
-    fn hear(reply: &Reply, _sent: Option<Note>) -> Reply {
-        *reply
-    }
-
     fn failure(step: u32, line: &[u8]) -> Option<Reply> {
         let mut front = Line::new();
         front.put(b"manifest no piece");
@@ -138,5 +145,28 @@ impl TracedExtension for Checker {
             Some(text) => failure_of(&Node::Verifier, text),
             None => None,
         }
+    }
+
+    // A piece at which the verifier failed may be the last one that was scanned.
+    fn is_in_doubt(first: &Next, prefix: &[u8]) -> bool {
+        match first {
+            Next::Step(_) => {
+                let front = b"manifest no piece ".as_slice();
+                front.starts_with(prefix) || prefix.starts_with(front)
+            }
+            Next::Say | Next::Stop => false,
+        }
+    }
+}
+
+/// Its steps ask the centre for a balance, which commits nothing, so no node fails in them.
+impl TracedExtension for StatementDesk {
+    fn failure(_step: u32, _line: &[u8]) -> Option<Reply> {
+        None
+    }
+
+    // A balance changes nothing.
+    fn is_in_doubt(_first: &Next, _prefix: &[u8]) -> bool {
+        false
     }
 }

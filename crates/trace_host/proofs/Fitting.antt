@@ -9,7 +9,7 @@ use Rattle.node_acts.specs.Said.{IsPlain}
 use Rattle.node_acts.specs.Views.{View}
 use Rattle.node_acts.proofs.OfCommits.{of_commit, commit_says}
 use Rattle.trace_nodes.proofs.Acts as each
-use Rattle.trace_nodes.proofs.Acts.{plain_says, unreleased_says}
+use Rattle.trace_nodes.proofs.Acts.{plain_says}
 use Rattle.host_jobs.specs.declared.rows.JobRow.{JobRow}
 use Rattle.host_jobs.specs.Acts as acts
 use Rattle.host_jobs.specs.ActLaws.{LeavesSound, SoundActs}
@@ -18,7 +18,6 @@ use Rattle.host_jobs.specs.Seen.{Seen, rows_in, counting, IsKnown}
 use Rattle.bench_abstraction.specs.declared.calls.HostCall.{HostCall}
 use Rattle.bench_abstraction.specs.declared.calls.HostCall.TheVariants as call
 use Rattle.bench_abstraction.specs.Host.{host_act}
-use Rattle.trace_nodes.specs.Giving.{ReleasesNone}
 use Rattle.trace_nodes.specs.TracedNodes.{FitsAct}
 use Rattle.trace_host.specs.Records.{IsFit, IsRanged}
 use Rattle.trace_host.proofs.Joined.{put_known}
@@ -44,14 +43,6 @@ call_plain (call.Send c) b = plain_says _ _ (λ x. refl) (λ x. refl) (acts.debi
 call_plain (call.Print c) b = plain_says _ _ (λ x. refl) (λ x. refl) (acts.begin_print_act c.job b)
 call_plain (call.Close c) b = plain_says _ _ (λ x. refl) (λ x. refl) (acts.close_act c.job b)
 call_plain (call.Take c) b = plain_says _ _ (λ x. refl) (λ x. refl) (acts.take_act c.bytes b)
-
--- it releases nothing
-pub call_releases : (c : HostCall) (b : Jobs) → ReleasesNone (host_act c b)
-call_releases (call.Order c) b = unreleased_says _ _ (λ x. refl) (acts.order_act c.device c.piece c.class c.price b)
-call_releases (call.Send c) b = unreleased_says _ _ (λ x. refl) (acts.debit_message_act c.job b)
-call_releases (call.Print c) b = unreleased_says _ _ (λ x. refl) (acts.begin_print_act c.job b)
-call_releases (call.Close c) b = unreleased_says _ _ (λ x. refl) (acts.close_act c.job b)
-call_releases (call.Take c) b = unreleased_says _ _ (λ x. refl) (acts.take_act c.bytes b)
 
 -- == the record after it ==
 

@@ -4,4 +4,3 @@ mod Fitting
 mod Joined
 mod OfCells
 mod Printing
-mod Switched

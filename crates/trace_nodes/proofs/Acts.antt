@@ -1,31 +1,18 @@
 -- What holds of an act where it says its answers so, and of the record that its commit leaves.
-use Rattle.std.proofs.Common.{◌≡◌, ◌≢◌, ℕ, Option, Some, None, Bool, true, false, if◌then◌else◌, refl}
+use Rattle.std.proofs.Common.{◌≡◌, Option, Some, None, Bool, true, false, if◌then◌else◌, refl}
 use Rattle.std.specs.Prelude.{IfSome}
 use Rattle.bench_base.specs.declared.{ledger.Commit.Commit, events.Reply.Reply}
-use Rattle.bench_base.specs.declared.events.Reply.TheVariants as r
 use Rattle.bench_base.specs.Replies.{Did, Refused, class_of}
 use Rattle.node_acts.specs.declared.{act.Act.Act, act.Act.TheVariants.Refuse, act.Act.TheVariants.Tell, act.Act.TheVariants.Commits, said.Said.Said}
 use Rattle.node_acts.specs.Acts.{commit_in, commit_of, OfCommit}
 use Rattle.node_acts.specs.Said.{IsPlain, saying}
 use Rattle.node_acts.specs.Views.{Counting, View}
-use Rattle.trace_nodes.specs.Judged.{PrintsNone}
-use Rattle.trace_nodes.specs.Giving.{released_as, ReleasesNone}
 
 module _ {X F A : Type 0} (refusal : F → Reply) (say : A → Said) where
   pub plain_says : ((x : F) → class_of (refusal x) ≡ Refused) → ((a : A) → class_of (say a).reply ≡ Did) → (act : Act X F A) → IsPlain (saying refusal say act)
   plain_says refuses says (Refuse x) = refuses x
   plain_says refuses says (Tell a) = says a
   plain_says refuses says (Commits c x a) = says a
-
-  pub unprinted_says : ((a : A) (j : ℕ) → (say a).reply ≢ r.Printed j) → (act : Act X F A) → PrintsNone (saying refusal say act)
-  unprinted_says says (Refuse x) = tt
-  unprinted_says says (Tell a) = says a
-  unprinted_says says (Commits c x a) = says a
-
-  pub unreleased_says : ((a : A) → released_as (say a).given ≡ None) → (act : Act X F A) → ReleasesNone (saying refusal say act)
-  unreleased_says says (Refuse x) = tt
-  unreleased_says says (Tell a) = says a
-  unreleased_says says (Commits c x a) = says a
 
 -- the record after the commit is known to be this, where the record with each change that its cell has room for is
 module _ {S X : Type 0} (n : Counting S X) (Known : S → Type 0) where

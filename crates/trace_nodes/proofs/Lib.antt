@@ -3,6 +3,5 @@ mod Openings
 mod PrinterFaults
 mod Switching
 pub mod Releasing
-pub mod Silent
 pub mod Telling
 pub mod Acts

@@ -1,17 +1,17 @@
 -- A line of an `on` of a node that is off.
-use Rattle.std.proofs.Common.{◌≡◌, inl, inr, ℕ, ◌+◌, ◌==◌, ◌<◌, ◌^◌, List, [], ◌∷◌, Option, Some, None, IsSome, true, false, refl, sym, ◌∙◌, ap, subst, arith}
+use Rattle.std.proofs.Common.{◌≡◌, ◌⊎◌, inl, inr, ℕ, ◌+◌, ◌==◌, ◌<◌, ◌^◌, List, [], ◌∷◌, Option, Some, None, IsSome, true, false, refl, sym, ◌∙◌, ap, subst, arith}
 use Rattle.std.proofs.lemmas.Bool.Decides.{nat_tests}
 use Rattle.bench_base.specs.declared.{words.Node.Node, ledger.Commit.Commit, events.Reply.Reply}
 use Rattle.bench_base.specs.declared.ledger.Entry.TheVariants as entry
 use Rattle.bench_base.specs.declared.events.Reply.TheVariants as r
 use Rattle.bench_base.specs.Plans.{Plan, told}
 use Rattle.bench_base.specs.Ranges.{IsNode}
-use Rattle.bench_base.specs.Replies.{class_of}
+use Rattle.bench_base.specs.Replies.{ReplyClass, LostPower, Faulted, class_of}
 use Rattle.node_acts.specs.Views.{Counting, View, started, up, up_with}
-use Rattle.node_acts.specs.Plans.{MayFail, Fails, MayReply, on_plan, view_after, after}
+use Rattle.node_acts.specs.Plans.{MayFail, Fails, MayReply, on_plan, view_after, after, after_told}
 use Rattle.script_text.specs.Texts.{text_of, IsWholeReply}
 use Rattle.script_text.specs.Texts as texts
-use Rattle.trace_nodes.specs.Judged.{TellsOf, newest_sent}
+use Rattle.trace_nodes.specs.Judged.{TellsOf}
 use Rattle.trace_nodes.proofs.Openings.{tells_power, tells_fault}
 
 -- the law of texts
@@ -98,21 +98,22 @@ module _ {S X : Type 0} (n : Counting S X) (m : Node) (v : View S) (off : v.on �
     same_reply a b (faulted x) (powered y) is = absurd (power_is_no_fault (sym (ap text_of y) ∙ sym is ∙ ap text_of x))
     same_reply a b (faulted x) (faulted y) is = x ∙ sym y
 
-    pub tells_on : (line : List ℕ) (w : View S) (reply : Reply) → Kind reply → text_of reply ≡ line → IsWholeReply reply → w ≡ view_after n reply None v → TellsOf n m v p None line w None reply
+    pub tells_on : (line : List ℕ) (w : View S) (reply : Reply) → Kind reply → text_of reply ≡ line → IsWholeReply reply → w ≡ view_after n reply None v → TellsOf n m v p None line w reply
     tells_on line w reply of text whole leaves = record {
       text = text;
       whole = whole;
       may = may reply of;
       leaves = leaves;
-      sends = silent reply of;
       alone = λ other may_other is. ap class_of (same_reply other reply (kind other may_other) of (is ∙ sym text));
     }
-      where
-        silent : (reply : Reply) → Kind reply → None ≡ newest_sent (after p reply [])
-        silent reply (came is) = ap (λ (y : Reply). newest_sent (after p y [])) (sym is)
-        silent reply (more o is) = ap (λ (y : Reply). newest_sent (after p y [])) (sym is)
-        silent reply (powered is) = ap (λ (q : Plan). newest_sent (after q (r.Power m) [])) (sym plan_is) ∙ ap (λ (y : Reply). newest_sent (after p y [])) (sym is)
-        silent reply (faulted is) = ap (λ (q : Plan). newest_sent (after q (r.Fault m) [])) (sym plan_is) ∙ ap (λ (y : Reply). newest_sent (after p y [])) (sym is)
+
+  -- a start that fails adds nothing
+  pub adds_none : (reply : Reply) → (i : Node) → (class_of reply ≡ LostPower i) ⊎ (class_of reply ≡ Faulted i) → [] ≡ after p reply []
+  adds_none reply i lost = sym (ap (λ (q : Plan). after q reply []) plan_is ∙ by lost)
+    where
+      by : (class_of reply ≡ LostPower i) ⊎ (class_of reply ≡ Faulted i) → after (told (r.Up m k) (entry.Up m k ∷ [])) reply [] ≡ []
+      by (inl is) = ap (λ (t : ReplyClass). after_told (told (r.Up m k) (entry.Up m k ∷ [])) t []) is
+      by (inr is) = ap (λ (t : ReplyClass). after_told (told (r.Up m k) (entry.Up m k ∷ [])) t []) is
 
 -- == what it is seen as ==
 

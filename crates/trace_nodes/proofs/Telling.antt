@@ -1,5 +1,5 @@
 -- A line of a call, by the possible results of the call: the replies that it may get are those of these results, and their texts distinguish them.
-use Rattle.std.proofs.Common.{◌≡◌, ◌≢◌, ◌⊎◌, inl, inr, ℕ, List, Option, Some, None, Bool, true, false, if◌then◌else◌, option_map, refl, sym, ◌∙◌, ap}
+use Rattle.std.proofs.Common.{◌≡◌, ◌⊎◌, inl, inr, ℕ, Option, Some, None, Bool, true, false, if◌then◌else◌, option_map, refl, sym, ◌∙◌, ap}
 use Rattle.bench_base.specs.declared.{words.Node.Node, ledger.Commit.Commit, events.Reply.Reply}
 use Rattle.bench_base.specs.declared.events.Reply.TheVariants as r
 use Rattle.bench_base.specs.Plans.{Plan, refuse, made}
@@ -7,12 +7,11 @@ use Rattle.bench_base.specs.Replies.{ReplyClass, Did, Refused, LostPower, Faulte
 use Rattle.node_acts.specs.declared.{act.Act.Act, act.Act.TheVariants.Refuse, act.Act.TheVariants.Tell, act.Act.TheVariants.Commits, act.Outcome.Outcome, said.Said.Said}
 use Rattle.node_acts.specs.declared.act.Outcome.TheVariants as o
 use Rattle.node_acts.specs.Views.{Counting, View}
-use Rattle.node_acts.specs.Acts.{commit_of, outcome_in, outcome_of, MayCome, after_call}
-use Rattle.node_acts.specs.Plans.{IsOfNode, MayFail, Fails, MayReply, done_plan}
-use Rattle.node_acts.specs.Said.{tells, IsPlain, seen_plan, said_reply, said_entries}
-use Rattle.node_acts.proofs.Told.{Tells, tells_call, seen_commit, seen_own}
-use Rattle.script_text.specs.Texts.{text_of, IsWholeReply}
-use Rattle.trace_nodes.specs.Judged.{PrintsNone, TellsOf, TellsNone, newest_sent}
+use Rattle.node_acts.specs.Acts.{commit_of, outcome_in, outcome_of, MayCome}
+use Rattle.node_acts.specs.Plans.{IsOfNode, MayFail, done_plan}
+use Rattle.node_acts.specs.Said.{tells, IsPlain, seen_plan, said_reply}
+use Rattle.node_acts.proofs.Told.{seen_commit, seen_own}
+use Rattle.script_text.specs.Texts.{text_of}
 use Rattle.trace_nodes.proofs.Openings.{tells_power, tells_fault}
 
 -- == an answer ==
@@ -37,23 +36,6 @@ module _ {S X : Type 0} (n : Counting S X) (m : Node) where
       by : (on : Bool) → IsDue (class_of (if on then done_plan n m (λ x. x) (λ a. a.reply) tells v.state act else refuse (r.OffNode m)).reply)
       by true = done_due v.state act plain
       by false = inr refl
-
-  -- and printed nothing
-  done_unprinted : (s : S) (act : Act X Reply Said) → IsPlain act → PrintsNone act → (j : ℕ) → (done_plan n m (λ x. x) (λ a. a.reply) tells s act).reply ≢ r.Printed j
-  done_unprinted s (Refuse x) plain none j is = let t : Refused ≡ Did = sym plain ∙ ap class_of is in cc
-  done_unprinted s (Tell a) plain none j is = none j is
-  done_unprinted s (Commits c x a) plain none j is = by (n.is_worn s x) is
-    where
-      by : (worn : Bool) → (if worn then refuse (r.Worn m) else made a.reply c (tells a)).reply ≢ r.Printed j
-      by true same = cc
-      by false same = none j same
-
-  unprinted : (v : View S) (act : Act X Reply Said) → IsPlain act → PrintsNone act → (j : ℕ) → (seen_plan n m v act).reply ≢ r.Printed j
-  unprinted v act plain none j is = by v.on is
-    where
-      by : (on : Bool) → (if on then done_plan n m (λ x. x) (λ a. a.reply) tells v.state act else refuse (r.OffNode m)).reply ≢ r.Printed j
-      by true same = done_unprinted v.state act plain none j same
-      by false same = cc
 
   -- == what the call comes to where nothing fails ==
 
@@ -188,45 +170,3 @@ module _ {S X : Type 0} (n : Counting S X) (m : Node) where
     same_reply x y (faulted a) (answered b) is = absurd (fault_is_no_answer (sym (ap text_of b) ∙ sym is ∙ ap text_of a))
     same_reply x y (faulted a) (powered b) is = absurd (power_is_no_fault (sym (ap text_of b) ∙ sym is ∙ ap text_of a))
     same_reply x y (faulted a) (faulted b) is = a ∙ sym b
-
-    -- == where nothing is printed ==
-
-    module _ (none : PrintsNone act) where
-      by_failure : (reply : Reply) → Fails p reply → ComesAs reply
-      by_failure (r.Power i) fails = by_power i fails
-      by_failure (r.Fault i) fails = by_fault i fails
-      by_failure (r.PrinterFault j) fails = absurd (unprinted v act plain none j fails)
-      by_failure _ fails = absurd fails
-
-      pub comes_back : (reply : Reply) → MayReply n m v p reply → ComesAs reply
-      comes_back reply (inl is) = (outcome_of n v act, may_answer v act (outcome_of n v act) (seen_answer v act) refl, seen_said v act ∙ sym is)
-      comes_back reply (inr (inl up)) = absurd (no_up m _ up.0)
-      comes_back reply (inr (inr fails)) = by_failure reply fails
-
-      -- == judged ==
-
-      by_may : {P Q W : Type 0} → P ⊎ W → P ⊎ (Q ⊎ W)
-      by_may (inl q) = inl q
-      by_may (inr w) = inr (inr w)
-
-      pub tells_of : (line : List ℕ) (x : Outcome Reply Said) → MayCome n v act x → text_of (said_reply m x) ≡ line → IsWholeReply (said_reply m x) → (w : View S) → w ≡ after_call x (commit_of n v act) v
-          → (sent : Option (List ℕ)) → sent ≡ newest_sent (said_entries m act x) → TellsOf n m v p (commit_of n v act) line w sent (said_reply m x)
-      tells_of line x may text whole w leaves sent sends =
-          let it : Tells n m p act (commit_of n v act) x = tells_call n m v act own plain x may in
-          record {
-            text = text;
-            whole = whole;
-            may = by_may it.may;
-            leaves = leaves ∙ sym (it.view v);
-            sends = sends ∙ ap newest_sent it.entries_are;
-            alone = λ other may_other is.
-                let back = comes_back other may_other in
-                ap class_of (sym back.2 ∙ same_reply back.0 x (kind back.0 back.1) (kind x may) (ap text_of back.2 ∙ is ∙ sym text));
-          }
-
-      pub tells_none : (line : List ℕ) → ((x : Outcome Reply Said) → MayCome n v act x → text_of (said_reply m x) ≢ line) → (due : Reply) → due ≡ p.reply → TellsNone n m v p (commit_of n v act) line v due
-      tells_none line never due is = record {
-        due_is = is;
-        none = λ reply may text. let back = comes_back reply may in never back.0 back.1 (ap text_of back.2 ∙ text);
-        rests = refl;
-      }

@@ -2,17 +2,14 @@
 //! can be the reply to an event of the node.
 #![tactic(auto)]
 
-mod giving;
 mod judge;
-mod printing;
 mod record;
 mod said;
 mod switch;
+mod told;
 mod traced;
 
-pub use giving::{GaveOut, judge_giving, unreleased};
 pub use judge::{is_told, judge_call};
-pub use printing::{PrintOutcome, judge_printing, unprinted};
 pub use record::Record;
 pub use said::said_act;
 pub use switch::{judge_cut, judge_off, judge_on};

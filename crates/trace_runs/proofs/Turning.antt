@@ -22,7 +22,7 @@ use Rattle.line_extensions.specs.Scripts.{script_grammar}
 use Rattle.script_replay.specs.Trace.{ledger_by}
 use Rattle.trace_bench.specs.declared.judging.Finding.TheVariants as found
 use Rattle.trace_bench.specs.Forging.{AtHistory}
-use Rattle.trace_bench.specs.Judging.{AtEach, IsJudged, text_with}
+use Rattle.trace_bench.specs.Judging.{AtEach, IsTold, IsUntold, text_with}
 use Rattle.trace_bench.specs.Seeing.{Audit, Sees, keeps}
 use Rattle.trace_runs.specs.Imprints.{IsGiven, IsDueMark, GivesSo, imprint_at}
 use Rattle.trace_runs.specs.Verdicts.{Skipped, Answered, status_of, IsEvent, HasLine, has_line, has_prefix, IsAnswered}
@@ -119,7 +119,7 @@ module _ (number : ℕ) (inside : number ≤ 1000000) (script line lines : List 
   too_long (Unread text n) prefix behind before after is one never unforged stop = absurd stop
 
   module _ (answer behind : List ℕ) (has : HasLine report answer behind) where
-    pub wrong : (due : Reply) (before : List Imprint) → IsUnforgedThere → AtEach old e (λ τ H. IsJudged τ H e rates answer new (Err (found.Wrong due)))
+    pub wrong : (due : Reply) (before : List Imprint) → IsUnforgedThere → AtEach old e (λ τ H. IsUntold τ H e rates answer new due)
         → FellPut number script report rates old new before before (Wrong number due)
     wrong due before unforged judged = (
       record {
@@ -129,7 +129,7 @@ module _ (number : ℕ) (inside : number ≤ 1000000) (script line lines : List 
       sym (append-nil before),
     )
 
-    module _ (used : ℕ) (unforged : IsUnforgedThere) (judged : AtEach old e (λ τ H. IsJudged τ H e rates answer new (Ok used))) (one : (x y : Reply) → IsWholeReply x → IsWholeReply y → text_of x ≡ text_of y → told x ≡ told y)
+    module _ (used : ℕ) (unforged : IsUnforgedThere) (judged : AtEach old e (λ τ H. (reply : Reply) × IsTold τ H e rates answer new reply × (used ≡ length (text_with τ H e rates answer reply)))) (one : (x y : Reply) → IsWholeReply x → IsWholeReply y → text_of x ≡ text_of y → told x ≡ told y)
         (due : Option (List ℕ)) (is_due : IsDueMark old e due) (given : Option Given) (gives : GivesSo e due answer given) where
       -- what may be done for the event
       may : (τ : Tariff) (H : Ledger) → IsOfTexts τ → History τ editions H → Sees old H

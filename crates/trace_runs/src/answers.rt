@@ -15,7 +15,7 @@ use crate::ends::over;
 use crate::imprint::{Imprint, due_mark, given_in, keep};
 use crate::stopping::stopped;
 use crate::verdict::{Ending, Input, Verdict};
-use bench_base::events::Event;
+use bench_base::events::{Event, Reply};
 use bench_base::stream::Source;
 use line_extensions::ended_by;
 use line_runs::lines::{LineRead, read_line};
@@ -55,13 +55,13 @@ fn judge_line<R: Source>(
     one_reply();
     let mark = due_mark(auditor, event);
     let given = given_in(event, mark, line);
-    match judge(alloc, auditor, event, rates, line) {
+    match judge::<Reply>(alloc, auditor, event, rates, line) {
         Err(Finding::Wrong(due)) => Err(Verdict::Wrong(number, due)),
         Err(Finding::Memory) => Err(Verdict::Memory),
-        Ok(used) => match ended_by(event) {
+        Ok(judged) => match ended_by(event) {
             Some(_) => Err(over(Ending::Done, number, report)),
             None => match keep(imprints, number, given) {
-                Ok(()) => Ok(used),
+                Ok(()) => Ok(judged.taken),
                 Err(_) => Err(Verdict::Memory),
             },
         },

@@ -1,4 +1,4 @@
--- The acts of the verifier's calls: what they commit, which replies they may get, and what they print.
+-- The acts of the verifier's calls: what they commit, and which replies they may get.
 use Rattle.std.proofs.Common.{◌≡◌, ℤ, ◌<◌, false, length, refl, arith}
 use Rattle.std.specs.Prelude.{IfSome}
 use Rattle.bench_base.specs.declared.{words.Node.TheVariants.Verifier, events.Reply.Reply}
@@ -10,7 +10,7 @@ use Rattle.node_acts.specs.Views.{View}
 use Rattle.node_acts.specs.RowList.{is_worn}
 use Rattle.node_acts.proofs.OfCommits.{of_commit, commit_says}
 use Rattle.trace_nodes.proofs.Acts as each
-use Rattle.trace_nodes.proofs.Acts.{plain_says, unprinted_says, unreleased_says}
+use Rattle.trace_nodes.proofs.Acts.{plain_says}
 use Rattle.verifier.specs.declared.acts.Change.{Change}
 use Rattle.verifier.specs.Acts as acts
 use Rattle.verifier.specs.ActLaws.{IsFit, LeavesSound, SoundActs}
@@ -18,8 +18,6 @@ use Rattle.verifier.specs.Seen.{Seen, cell_of, counting, IsKnown}
 use Rattle.bench_abstraction.specs.declared.calls.VerifierCall.{VerifierCall}
 use Rattle.bench_abstraction.specs.declared.calls.VerifierCall.TheVariants as call
 use Rattle.bench_abstraction.specs.Verifier.{verifier_act}
-use Rattle.trace_nodes.specs.Judged.{PrintsNone}
-use Rattle.trace_nodes.specs.Giving.{ReleasesNone}
 use Rattle.trace_nodes.specs.TracedNodes.{FitsAct}
 use Rattle.trace_verifier.specs.Records.{IsRanged}
 use Rattle.trace_verifier.proofs.Kept.{few_put}
@@ -39,15 +37,6 @@ own_by s act leaves = of_commit _ _ act leaves (λ c x left. left.1)
 pub call_plain : (today : ℤ) (c : VerifierCall) (s : Seen) → IsPlain (verifier_act today c s)
 call_plain today (call.Trust c) s = plain_says _ _ (λ x. refl) (λ a. refl) (acts.trust_act c.device c.key s)
 call_plain today (call.Scan c) s = plain_says _ _ (λ x. refl) (λ a. refl) (acts.scan_act c.number c.bytes today s)
-
-pub call_prints : (today : ℤ) (c : VerifierCall) (s : Seen) → PrintsNone (verifier_act today c s)
-call_prints today (call.Trust c) s = unprinted_says _ _ (λ a j is. cc) (acts.trust_act c.device c.key s)
-call_prints today (call.Scan c) s = unprinted_says _ _ (λ a j is. cc) (acts.scan_act c.number c.bytes today s)
-
--- it releases nothing
-pub call_releases : (today : ℤ) (c : VerifierCall) (s : Seen) → ReleasesNone (verifier_act today c s)
-call_releases today (call.Trust c) s = unreleased_says _ _ (λ a. refl) (acts.trust_act c.device c.key s)
-call_releases today (call.Scan c) s = unreleased_says _ _ (λ a. refl) (acts.scan_act c.number c.bytes today s)
 
 -- == the record after it ==
 

@@ -3,6 +3,7 @@ use Rattle.std.specs.Prelude.{ℕ, ℤ, List, Option, Result}
 use Rattle.bench_base.specs.declared.{words.Node.TheVariants.Verifier, ledger.Commit.Commit, events.Reply.Reply}
 use Rattle.node_acts.specs.declared.asked.Asked.{Asked}
 use Rattle.node_acts.specs.Views.{View}
+use Rattle.node_turns.specs.declared.turn.Turn.{Turn}
 use Rattle.verifier.specs.Seen.{Seen, counting}
 use Rattle.bench_abstraction.specs.declared.calls.VerifierCall.{VerifierCall}
 use Rattle.bench_abstraction.specs.declared.routing.OfDay.TheVariants as of_day
@@ -13,8 +14,8 @@ use Rattle.trace_views.specs.Verdicts as views
 abbrev pub commit_in : ℤ → Asked VerifierCall → View Seen → Option (Commit × Seen)
 commit_in = views.commit_in counting verifier_kind Verifier tt
 
-abbrev pub IsByView : ℤ → Asked VerifierCall → List ℕ → View Seen → View Seen → Result (Option (List ℕ)) Reply → Type 0
-IsByView = views.IsByView counting verifier_kind Verifier tt
+abbrev pub IsByView : {T : Type 0} → (T → Turn → Type 0) → ℤ → Asked VerifierCall → List ℕ → View Seen → View Seen → Result T Reply → Type 0
+IsByView IsOf = views.IsByView counting verifier_kind Verifier tt IsOf
 
-abbrev pub IsByLedger : ℤ → Asked VerifierCall → List ℕ → View Seen → View Seen → Result (Option (List ℕ)) Reply → Type 0
-IsByLedger = views.IsByLedger counting verifier_kind Verifier tt of_day.Verifier AreBytes
+abbrev pub IsByLedger : {T : Type 0} → (T → Turn → Type 0) → ℤ → Asked VerifierCall → List ℕ → View Seen → View Seen → Result T Reply → Type 0
+IsByLedger IsOf = views.IsByLedger counting verifier_kind Verifier tt IsOf of_day.Verifier AreBytes

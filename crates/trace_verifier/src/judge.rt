@@ -9,11 +9,11 @@ use crate::acts::scan_said;
 use crate::record::ScanRecord;
 use bench_abstraction::VerifierCall;
 use bench_abstraction::laws::verifier_follows;
-use bench_base::bytes::Note;
 use bench_base::events::Reply;
 use bench_base::numbers::DayNo;
 use bench_base::words::Node;
 use node_acts::Asked;
+use node_turns::Tell;
 use trace_nodes::{Traced, judge_call, judge_cut, judge_off, judge_on};
 use verifier::{Change, acts_follow_the_commits};
 
@@ -25,16 +25,16 @@ fn is_known(kept: &ScanRecord)
 }
 
 // Judges by what is seen of the verifier. Its record is one that storage can show, before and after a commit.
-fn judge_view(
+fn judge_view<T: Tell>(
     traced: &mut Traced<ScanRecord, Change>,
     day: DayNo,
     asked: &Asked<VerifierCall>,
     line: &[u8],
-) -> Result<Option<Note>, Reply>
+) -> Result<T, Reply>
     requires settled { IsSettled traced.old }
     requires ranged { IsRangedAsked asked.now }
     ensures settled { IsSettled traced.new }
-    ensures judged { IsByView day asked.now line.now (view_of traced.old) (view_of traced.new) result }
+    ensures judged { IsByView T.IsOf day asked.now line.now (view_of traced.old) (view_of traced.new) result }
     ensures known { IsKnown (cells_of traced.old.record) }
     ensures next { IfSome (commit_in day asked.now (view_of traced.old)) (λ x. IsKnown x.1) }
 {
@@ -53,17 +53,17 @@ fn judge_view(
 }
 
 /// Judges the line of an event that asks this of the verifier on that day: as `judge_device` of trace_device.
-pub fn judge_scans(
+pub fn judge_scans<T: Tell>(
     traced: &mut Traced<ScanRecord, Change>,
     day: DayNo,
     asked: &Asked<VerifierCall>,
     line: &[u8],
-) -> Result<Option<Note>, Reply>
+) -> Result<T, Reply>
     requires settled { IsSettled traced.old }
     requires ranged { IsRangedAsked asked.now }
     ensures settled { IsSettled traced.new }
-    ensures by_view { IsByView day asked.now line.now (view_of traced.old) (view_of traced.new) result }
-    ensures by_ledger { IsByLedger day asked.now line.now (view_of traced.old) (view_of traced.new) result }
+    ensures by_view { IsByView T.IsOf day asked.now line.now (view_of traced.old) (view_of traced.new) result }
+    ensures by_ledger { IsByLedger T.IsOf day asked.now line.now (view_of traced.old) (view_of traced.new) result }
 {
     verifier_follows();
     judge_view(traced, day, asked, line)

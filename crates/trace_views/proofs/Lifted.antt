@@ -1,5 +1,5 @@
 -- What is judged of a line by what is seen of a node is so by the ledger, where the two follow each other: for nodes of any kind.
-use Rattle.std.proofs.Common.{◌≡◌, ◌≢◌, ◌⊎◌, inl, inr, ℕ, ℤ, ◌+◌, List, [], ◌∷◌, ◌++◌, ◌↔◌, Option, Some, None, Result, Ok, Err, IsSome, option_map, Bool, true, false, if◌then◌else◌, refl, sym, ◌∙◌, ap, subst}
+use Rattle.std.proofs.Common.{◌≡◌, ◌≢◌, ◌⊎◌, inl, inr, ℕ, ℤ, ◌+◌, List, [], ◌∷◌, ◌++◌, ◌↔◌, Option, Some, None, Result, Ok, Err, IsSome, option_map, Bool, true, false, if◌then◌else◌, refl, sym, ◌∙◌, ap, subst, arith}
 use Rattle.std.specs.Prelude.{IfSome}
 use Rattle.bench_base.specs.declared.{words.Node.Node, ledger.Commit.Commit, ledger.Entry.Entry, events.Event.Event, events.Reply.Reply}
 use Rattle.bench_base.specs.declared.ledger.Entry.TheVariants as entry
@@ -24,60 +24,67 @@ use Rattle.bench_abstraction.specs.Kinds.{bench_kinds}
 use Rattle.bench_abstraction.specs.Messages.{sent_in, SendsNone, IsFew}
 use Rattle.bench_abstraction.specs.Tariff.{quote_in}
 use Rattle.bench_abstraction.specs.Routing.{routed}
-use Rattle.trace_nodes.specs.Judged.{TellsOf, TellsNone, newest_sent}
-use Rattle.trace_nodes.specs.Giving.{IsOnlyRelease, ReleasesNone}
-use Rattle.trace_nodes.proofs.Releasing.{IsUnreleasing, plan_releases, seen_unreleasing, on_unreleasing, off_unreleasing}
+use Rattle.node_turns.specs.Turns as turns
+use Rattle.node_turns.specs.Turns.{in_order, turn_of}
+use Rattle.node_turns.specs.declared.turn.Turn.{Turn}
+use Rattle.trace_nodes.specs.Judged.{TellsOf, TellsNone}
+use Rattle.trace_nodes.specs.Released.{released_in}
+use Rattle.trace_nodes.proofs.Releasing.{Shows, ShowsAll, plan_shows, call_shows, on_shows, off_shows, cut_shows}
 use Rattle.trace_nodes.proofs.Telling.{seen_due}
-use Rattle.trace_views.specs.Verdicts.{plan_in, commit_in, listed, Adds, MovesSo, MovesNever, ByLedger, IsByView, IsByLedger}
+use Rattle.trace_views.specs.Verdicts.{plan_in, commit_in, listed, turn_at, Adds, MovesSo, MovesNever, MovesBy, IsByView, IsByLedger}
 use Rattle.bench_abstraction.proofs.Sent.{sends_none}
 
 -- == what was sent ==
 
-few_sent : (T : List Entry) → IsFew T → sent_in T ≡ listed (newest_sent T)
+-- the message that was sent last, if it is the newest entry
+abbrev newest : List Entry → Option (List ℕ)
+newest [] = None
+newest (entry.Sent bytes ∷ T) = Some bytes
+newest (_ ∷ T) = None
+
+few_sent : (T : List Entry) → IsFew T → sent_in T ≡ listed (newest T)
 few_sent [] few = refl
 few_sent (entry.Sent bytes ∷ T) few = ap (λ (l : List (List ℕ)). l ++ bytes ∷ []) (sends_none T few.1)
 few_sent (entry.Begin ∷ T) few = refl
-few_sent (entry.Commit c ∷ T) few = sends_none T few.1
-few_sent (entry.Torn m c ∷ T) few = sends_none T few.1
-few_sent (entry.Day t ∷ T) few = sends_none T few.1
-few_sent (entry.Rates text ∷ T) few = sends_none T few.1
-few_sent (entry.Released d piece x ∷ T) few = sends_none T few.1
-few_sent (entry.Printed j x ∷ T) few = sends_none T few.1
-few_sent (entry.Up m k ∷ T) few = sends_none T few.1
-few_sent (entry.Down m ∷ T) few = sends_none T few.1
+few_sent (_ ∷ T) few = sends_none T few.1
+
+-- a turn has its message last
+passed : (x : Entry) (T : List Entry) (rest : List (Option Entry)) → SendsNone (x ∷ T) → turns.sent_in (Some x ∷ rest) ≡ turns.sent_in rest
+passed (entry.Sent bytes) T rest none = absurd none
+passed _ T rest none = refl
+
+last : (x : Entry) (T : List Entry) (rest : List (Option Entry)) → turns.sent_in rest ≡ None → turns.sent_in (Some x ∷ rest) ≡ newest (x ∷ T)
+last (entry.Sent bytes) T rest none = refl
+last _ T rest none = none
+
+sends_rest : (x : Entry) (T : List Entry) → SendsNone (x ∷ T) → SendsNone T
+sends_rest (entry.Sent bytes) T none = absurd none
+sends_rest _ T none = none
+
+turn_sent : (T : List Entry) → IsFew T → turns.sent_in (in_order T) ≡ newest T
+turn_sent [] few = refl
+turn_sent (x ∷ []) few = last x [] (None ∷ None ∷ []) refl
+turn_sent (y ∷ x ∷ []) few = passed x [] (Some y ∷ None ∷ []) few.1 ∙ last y (x ∷ []) (None ∷ []) refl
+turn_sent (z ∷ y ∷ x ∷ []) few =
+    passed x [] (Some y ∷ Some z ∷ []) (sends_rest y (x ∷ []) few.1) ∙ passed y (x ∷ []) (Some z ∷ []) few.1 ∙ last z (y ∷ x ∷ []) [] refl
+turn_sent (z ∷ y ∷ x ∷ w ∷ more) few = absurd (omega (arith, few.0))
 
 -- == what is added ==
 
 never_sent : (T : List Entry) → SendsNone T → (bytes : List ℕ) → IsSent bytes T → ⊥
 never_sent [] none bytes is = is
 never_sent (entry.Sent x ∷ T) none bytes is = none
-never_sent (entry.Begin ∷ T) none bytes is = never_sent T none bytes is
-never_sent (entry.Commit c ∷ T) none bytes is = never_sent T none bytes is
-never_sent (entry.Torn m c ∷ T) none bytes is = never_sent T none bytes is
-never_sent (entry.Day t ∷ T) none bytes is = never_sent T none bytes is
-never_sent (entry.Rates text ∷ T) none bytes is = never_sent T none bytes is
-never_sent (entry.Released d piece x ∷ T) none bytes is = never_sent T none bytes is
-never_sent (entry.Printed j x ∷ T) none bytes is = never_sent T none bytes is
-never_sent (entry.Up m k ∷ T) none bytes is = never_sent T none bytes is
-never_sent (entry.Down m ∷ T) none bytes is = never_sent T none bytes is
+never_sent (_ ∷ T) none bytes is = never_sent T none bytes is
 
 -- of what one event adds the newest may be a message, and no other
-one_sent : (T : List Entry) → IsFew T → (bytes : List ℕ) → IsSent bytes T ↔ (newest_sent T ≡ Some bytes)
+one_sent : (T : List Entry) → IsFew T → (bytes : List ℕ) → IsSent bytes T ↔ (newest T ≡ Some bytes)
 one_sent [] few bytes = (λ is. absurd is, λ is. cc)
 one_sent (entry.Sent x ∷ T) few bytes = (by, λ is. let same : x ≡ bytes = cc in inl same)
   where
     by : (x ≡ bytes) ⊎ IsSent bytes T → Some x ≡ Some bytes
     by (inl same) = ap (λ (y : List ℕ). Some y) same
     by (inr is) = absurd (never_sent T few.1 bytes is)
-one_sent (entry.Begin ∷ T) few bytes = (λ is. absurd (never_sent T few.1 bytes is), λ is. cc)
-one_sent (entry.Commit c ∷ T) few bytes = (λ is. absurd (never_sent T few.1 bytes is), λ is. cc)
-one_sent (entry.Torn m c ∷ T) few bytes = (λ is. absurd (never_sent T few.1 bytes is), λ is. cc)
-one_sent (entry.Day t ∷ T) few bytes = (λ is. absurd (never_sent T few.1 bytes is), λ is. cc)
-one_sent (entry.Rates text ∷ T) few bytes = (λ is. absurd (never_sent T few.1 bytes is), λ is. cc)
-one_sent (entry.Released d piece x ∷ T) few bytes = (λ is. absurd (never_sent T few.1 bytes is), λ is. cc)
-one_sent (entry.Printed j x ∷ T) few bytes = (λ is. absurd (never_sent T few.1 bytes is), λ is. cc)
-one_sent (entry.Up m k ∷ T) few bytes = (λ is. absurd (never_sent T few.1 bytes is), λ is. cc)
-one_sent (entry.Down m ∷ T) few bytes = (λ is. absurd (never_sent T few.1 bytes is), λ is. cc)
+one_sent (_ ∷ T) few bytes = (λ is. absurd (never_sent T few.1 bytes is), λ is. cc)
 
 -- what was sent or released is among the entries that were added, or was before
 sent_split : (T H : List Entry) (bytes : List ℕ) → IsSent bytes (T ++ H) ↔ (IsSent bytes T ⊎ IsSent bytes H)
@@ -86,15 +93,7 @@ sent_split (entry.Sent x ∷ T) H bytes = (
   λ is. elim is [ inl same ↦ inl (inl same) | inr rest ↦ elim ((sent_split T H bytes).0 rest) [ inl at ↦ inl (inr at) | inr was ↦ inr was ] ],
   λ is. elim is [ inl at ↦ elim at [ inl same ↦ inl same | inr rest ↦ inr ((sent_split T H bytes).1 (inl rest)) ] | inr was ↦ inr ((sent_split T H bytes).1 (inr was)) ],
 )
-sent_split (entry.Begin ∷ T) H bytes = sent_split T H bytes
-sent_split (entry.Commit c ∷ T) H bytes = sent_split T H bytes
-sent_split (entry.Torn m c ∷ T) H bytes = sent_split T H bytes
-sent_split (entry.Day t ∷ T) H bytes = sent_split T H bytes
-sent_split (entry.Rates text ∷ T) H bytes = sent_split T H bytes
-sent_split (entry.Released d piece x ∷ T) H bytes = sent_split T H bytes
-sent_split (entry.Printed j x ∷ T) H bytes = sent_split T H bytes
-sent_split (entry.Up m k ∷ T) H bytes = sent_split T H bytes
-sent_split (entry.Down m ∷ T) H bytes = sent_split T H bytes
+sent_split (_ ∷ T) H bytes = sent_split T H bytes
 
 released_split : (T H : List Entry) (mark : List ℕ) → IsReleased mark (T ++ H) ↔ (IsReleased mark T ⊎ IsReleased mark H)
 released_split [] H mark = (λ is. inr is, λ is. elim is [ inl none ↦ absurd none | inr was ↦ was ])
@@ -102,15 +101,7 @@ released_split (entry.Released d piece x ∷ T) H mark = (
   λ is. elim is [ inl same ↦ inl (inl same) | inr rest ↦ elim ((released_split T H mark).0 rest) [ inl at ↦ inl (inr at) | inr was ↦ inr was ] ],
   λ is. elim is [ inl at ↦ elim at [ inl same ↦ inl same | inr rest ↦ inr ((released_split T H mark).1 (inl rest)) ] | inr was ↦ inr ((released_split T H mark).1 (inr was)) ],
 )
-released_split (entry.Begin ∷ T) H mark = released_split T H mark
-released_split (entry.Commit c ∷ T) H mark = released_split T H mark
-released_split (entry.Torn m c ∷ T) H mark = released_split T H mark
-released_split (entry.Day t ∷ T) H mark = released_split T H mark
-released_split (entry.Rates text ∷ T) H mark = released_split T H mark
-released_split (entry.Sent x ∷ T) H mark = released_split T H mark
-released_split (entry.Printed j x ∷ T) H mark = released_split T H mark
-released_split (entry.Up m k ∷ T) H mark = released_split T H mark
-released_split (entry.Down m ∷ T) H mark = released_split T H mark
+released_split (_ ∷ T) H mark = released_split T H mark
 
 -- what a plan adds stands before the ledger
 append_both : (a b c : List Entry) → (a ++ b) ++ c ≡ a ++ (b ++ c)
@@ -147,35 +138,32 @@ either same = (λ is. elim is [ inl p ↦ inl (same.0 p) | inr r ↦ inr r ], λ
 through : {P Q R : Type 0} → P ↔ Q → Q ↔ R → P ↔ R
 through a b = (λ p. b.0 (a.0 p), λ r. a.1 (b.1 r))
 
-plan_adds : (p : Plan) (reply : Reply) (H : Ledger) (sent released : Option (List ℕ)) → IsFew (after p reply []) → sent ≡ newest_sent (after p reply []) → IsOnlyRelease released (after p reply []) → Adds sent released H (after p reply H)
-plan_adds p reply H sent released few sends only = subst (λ (L : Ledger). Adds sent released H L) (sym (told_before p (class_of reply) H)) (record {
-  sends = λ bytes. through (sent_split T H bytes) (either (subst (λ (o : Option (List ℕ)). IsSent bytes T ↔ (o ≡ Some bytes)) (sym sends) (one_sent T few bytes)));
+plan_adds : (p : Plan) (reply : Reply) (H : Ledger) → IsFew (after p reply []) → Shows (after p reply [])
+    → Adds (turns.sent_in (in_order (after p reply []))) (released_in (in_order (after p reply []))) H (after p reply H)
+plan_adds p reply H few only = subst (λ (L : Ledger). Adds (turns.sent_in (in_order T)) (released_in (in_order T)) H L) (sym (told_before p (class_of reply) H)) (record {
+  sends = λ bytes. through (sent_split T H bytes) (either (subst (λ (o : Option (List ℕ)). IsSent bytes T ↔ (o ≡ Some bytes)) (sym (turn_sent T few)) (one_sent T few bytes)));
   releases = λ mark. through (released_split T H mark) (either (only mark));
 })
   where
     T : Ledger
     T = after p reply []
 
--- == an event that releases nothing ==
-
--- each call of the node releases nothing
-abbrev pub AreUnreleasing : {N S X C : Type 0} → Counting S X → Kind N S C → Node → N → Type 0
-AreUnreleasing {N} {S} {X} {C} n kind m d = (today : ℤ) (v : View S) (c : C) → (act : Act X Reply Said) × (kind.plan d today v c ≡ seen_plan n m v act) × ReleasesNone act
-
-pub asked_releases : {N S X C : Type 0} (n : Counting S X) (kind : Kind N S C) (m : Node) (d : N) → AreUnreleasing n kind m d → (today : ℤ) (asked : Asked C) (v : View S) (reply : Reply) → IsOnlyRelease None (after (plan_in n kind m d today asked v) reply [])
-asked_releases {C = C} n kind m d acts today asked v reply = plan_releases (plan_in n kind m d today asked v) (by asked) reply
-  where
-    by : (x : Asked C) → IsUnreleasing (plan_in n kind m d today x v).after
-    by On = on_unreleasing m v.on (n.count v.state)
-    by Off = off_unreleasing m v.on
-    by (Cut calls keep byte) = λ mark is. is
-    by (Call call) = let act = acts today v call in subst (λ (p : Plan). IsUnreleasing p.after) (sym act.1) (seen_unreleasing n m v act.0 act.2)
-
 -- == an `on` alone is answered by Up ==
 
 -- the plan of each call of the node is that of an act, which refuses or reports that it was done
 abbrev pub IsByActs : {N S X C : Type 0} → Counting S X → Kind N S C → Node → N → Type 0
 IsByActs {N} {S} {X} {C} n kind m d = (today : ℤ) (v : View S) (c : C) → (act : Act X Reply Said) × (kind.plan d today v c ≡ seen_plan n m v act) × IsPlain act
+
+-- the turn of what it is asked shows what is released
+asked_shows : {N S X C : Type 0} (n : Counting S X) (kind : Kind N S C) (m : Node) (d : N) → IsByActs n kind m d → (today : ℤ) (asked : Asked C) (v : View S) (reply : Reply)
+    → Shows (after (plan_in n kind m d today asked v) reply [])
+asked_shows {C = C} n kind m d acts today asked v reply = plan_shows (plan_in n kind m d today asked v) (by asked) reply
+  where
+    by : (x : Asked C) → ShowsAll (plan_in n kind m d today x v).after
+    by On = on_shows m v.on (n.count v.state)
+    by Off = off_shows m v.on
+    by (Cut calls keep byte) = cut_shows m
+    by (Call call) = let act = acts today v call in subst (λ (p : Plan). ShowsAll p.after) (sym act.1) (call_shows n m v act.0)
 
 module _ {N S X C : Type 0} (n : Counting S X) (kind : Kind N S C) (m : Node) (d : N) (acts : IsByActs n kind m d) (today : ℤ) (v : View S) (i : Node) (c : ℕ) where
   abbrev IsOwnUp : Type 0
@@ -234,11 +222,11 @@ module _ {N S X C : Type 0} (n : Counting S X) (kind : Kind N S C) (m : Node) (d
     may reply (whole, inr (inr (inl fails))) = inr (inr (subst (λ (q : Plan). Fails q reply) f.plan fails))
     may reply (whole, inr (inr (inr reading))) = absurd (reads_none reading.event)
 
-    so : (line : List ℕ) (w : View S) (sent released : Option (List ℕ)) (reply : Reply) → TellsOf n m here p (commit_in n kind m d today asked here) line w sent reply → IsOnlyRelease released (after p reply [])
-        → MovesSo n kind m d τ H e line w sent released reply
-    so line w sent released reply of only =
+    so : (line : List ℕ) (w : View S) (reply : Reply) → TellsOf n m here p (commit_in n kind m d today asked here) line w reply → MovesSo n kind m d τ H e line w reply
+    so line w reply of =
         let does = f.replied reply of.may in
         let q = plan τ todays_rules H e [] in
+        let T = after q reply [] in
         record {
           text = of.text;
           whole = of.whole;
@@ -246,10 +234,14 @@ module _ {N S X C : Type 0} (n : Counting S X) (kind : Kind N S C) (m : Node) (d
           here = does.here ∙ sym of.leaves;
           others = does.others;
           rests = does.rests;
-          sends = does.sent ∙ ap (λ (l : List (List ℕ)). sent_in H ++ l) (few_sent (after (plan τ todays_rules H e []) reply []) does.few ∙ ap (λ (q : Plan). listed (newest_sent (after q reply []))) f.plan ∙ ap listed (sym of.sends));
-          adds = plan_adds q reply H sent released does.few (of.sends ∙ ap (λ (x : Plan). newest_sent (after x reply [])) (sym f.plan)) (subst (λ (x : Plan). IsOnlyRelease released (after x reply [])) (sym f.plan) only);
-          alone = λ other moves is. ap (λ (t : ReplyClass). after_told (plan τ todays_rules H e []) t H) (of.alone other (may other moves) is);
+          sends = does.sent ∙ ap (λ (l : List (List ℕ)). sent_in H ++ l) (few_sent T does.few ∙ ap listed (sym (turn_sent T does.few)));
+          adds = plan_adds q reply H does.few (subst (λ (x : Plan). Shows (after x reply [])) (sym f.plan) (asked_shows n kind m d acts today asked here reply));
+          alone = λ other moves is. ap (λ (t : ReplyClass). after_told q t H) (of.alone other (may other moves) is);
         }
+
+    -- the turn is that of the ledger
+    tells : {T : Type 0} (IsOf : T → Turn → Type 0) (told : T) (reply : Reply) → IsOf told (turn_of reply (after p reply [])) → IsOf told (turn_at τ H e [] reply)
+    tells IsOf told reply is = subst (λ (q : Plan). IsOf told (turn_of reply (after q reply []))) (sym f.plan) is
 
     never : (line : List ℕ) (w : View S) (due : Reply) → TellsNone n m here p (commit_in n kind m d today asked here) line w due → MovesNever n kind m d τ H e line w due
     never line w due none = record {
@@ -260,31 +252,17 @@ module _ {N S X C : Type 0} (n : Counting S X) (kind : Kind N S C) (m : Node) (d
 
   module _ (IsWhole : Asked C → Type 0) (Fits : S → Type 0) (law : FollowsAlways n kind m d bench_kinds work_of IsWhole Fits) (today : ℤ) (asked : Asked C) (line : List ℕ) (v w : View S)
       (fits : Fits v.state) (next : IfSome (commit_in n kind m d today asked v) (λ x. Fits x.1)) where
-    -- the same of any view: what a line shows
-    abbrev SoFrom : Option (List ℕ) → Option (List ℕ) → Reply → Tariff → Ledger → Event → View S → Type 0
-    SoFrom sent released reply τ H e u = Fits u.state → IfSome (commit_in n kind m d today asked u) (λ x. Fits x.1) → TellsOf n m u (plan_in n kind m d today asked u) (commit_in n kind m d today asked u) line w sent reply
-        → IsOnlyRelease released (after (plan_in n kind m d today asked u) reply []) → MovesSo n kind m d τ H e line w sent released reply
+    -- the same of any view
+    abbrev From : {T : Type 0} → (T → Turn → Type 0) → Result T Reply → Tariff → Ledger → Event → View S → Type 0
+    From IsOf result τ H e u = Fits u.state → IfSome (commit_in n kind m d today asked u) (λ x. Fits x.1) → IsByView n kind m d IsOf today asked line u w result
+        → MovesBy n kind m d IsOf τ H e line w result
 
-    pub lifts_so : (sent released : Option (List ℕ)) (reply : Reply) → TellsOf n m v (plan_in n kind m d today asked v) (commit_in n kind m d today asked v) line w sent reply
-        → IsOnlyRelease released (after (plan_in n kind m d today asked v) reply []) → ByLedger n kind m d work_of IsWhole today asked v (λ τ H e. MovesSo n kind m d τ H e line w sent released reply)
-    lifts_so sent released reply of only τ H e history unforged day whole asks ranged seen =
-        let at : SoFrom sent released reply τ H e (view_in m (kind.seen d) H) =
-        λ known more told only. so today asked τ H e asks (law τ H e today asked history unforged day whole asks ranged known more) line w sent released reply told only in
-        subst (SoFrom sent released reply τ H e) seen at fits next of only
-
-    abbrev NeverFrom : Reply → Tariff → Ledger → Event → View S → Type 0
-    NeverFrom due τ H e u = Fits u.state → IfSome (commit_in n kind m d today asked u) (λ x. Fits x.1) → TellsNone n m u (plan_in n kind m d today asked u) (commit_in n kind m d today asked u) line w due
-        → MovesNever n kind m d τ H e line w due
-
-    pub lifts_never : (due : Reply) → TellsNone n m v (plan_in n kind m d today asked v) (commit_in n kind m d today asked v) line w due
-        → ByLedger n kind m d work_of IsWhole today asked v (λ τ H e. MovesNever n kind m d τ H e line w due)
-    lifts_never due none τ H e history unforged day whole asks ranged seen =
-        let at : NeverFrom due τ H e (view_in m (kind.seen d) H) =
-        λ known more told. never today asked τ H e asks (law τ H e today asked history unforged day whole asks ranged known more) line w due told in
-        subst (NeverFrom due τ H e) seen at fits next none
-
-    -- the same of a node that releases nothing, whatever is judged
-    pub lifts : AreUnreleasing n kind m d → (result : Result (Option (List ℕ)) Reply) → IsByView n kind m d today asked line v w result → IsByLedger n kind m d work_of IsWhole today asked line v w result
-    lifts none (Ok sent) judged τ H e history unforged day whole asks ranged seen =
-        (judged.0, lifts_so sent None judged.0 judged.1 (asked_releases n kind m d none today asked v judged.0) τ H e history unforged day whole asks ranged seen)
-    lifts none (Err due) judged τ H e history unforged day whole asks ranged seen = lifts_never due judged τ H e history unforged day whole asks ranged seen
+    pub lifts : {T : Type 0} (IsOf : T → Turn → Type 0) (result : Result T Reply) → IsByView n kind m d IsOf today asked line v w result
+        → IsByLedger n kind m d IsOf work_of IsWhole today asked line v w result
+    lifts {T} IsOf result judged τ H e history unforged day whole asks ranged seen = subst (From IsOf result τ H e) seen (at result) fits next judged
+      where
+        at : (x : Result T Reply) → From IsOf x τ H e (view_in m (kind.seen d) H)
+        at (Ok told) known more of =
+            let f = law τ H e today asked history unforged day whole asks ranged known more in
+            (of.0, so today asked τ H e asks f line w of.0 of.1, tells today asked τ H e asks f IsOf told of.0 of.2)
+        at (Err due) known more of = never today asked τ H e asks (law τ H e today asked history unforged day whole asks ranged known more) line w due of

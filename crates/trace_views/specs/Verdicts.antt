@@ -8,8 +8,12 @@ use Rattle.bench_base.specs.Events.{IsWholeEvent}
 use Rattle.node_acts.specs.declared.asked.Asked.{Asked}
 use Rattle.node_acts.specs.Views.{Counting, View}
 use Rattle.node_acts.specs.Kinds.{Kind, view_in, node_plan, node_commit}
+use Rattle.node_acts.specs.Plans.{after}
+use Rattle.node_turns.specs.Turns as turns
+use Rattle.node_turns.specs.Turns.{turn_of}
+use Rattle.node_turns.specs.declared.turn.Turn.{Turn}
 use Rattle.ledger_moves.specs.Tariffs.{Tariff}
-use Rattle.ledger_moves.specs.Moves.{Moves, answer, entries}
+use Rattle.ledger_moves.specs.Moves.{Moves, answer, entries, plan}
 use Rattle.ledger_moves.specs.Histories.{History, Unforged}
 use Rattle.bench_abstraction.specs.declared.routing.Routed.TheVariants as route
 use Rattle.bench_abstraction.specs.declared.routing.OfDay.{OfDay}
@@ -20,6 +24,7 @@ use Rattle.bench_abstraction.specs.Tariff.{quote_in}
 use Rattle.bench_abstraction.specs.Routing.{routed}
 use Rattle.script_text.specs.Texts.{text_of, IsWholeReply}
 use Rattle.trace_nodes.specs.Judged.{Judged}
+use Rattle.trace_nodes.specs.Released.{released_in}
 
 -- the message, if there is one
 abbrev pub listed : Option (List ℕ) → List (List ℕ)
@@ -29,6 +34,10 @@ listed (Some bytes) = bytes ∷ []
 -- the ledger after an event that got this reply, if nothing is read as rates
 abbrev pub behind : Tariff → Ledger → Event → Reply → Ledger
 behind τ H e reply = entries τ todays_rules H e [] reply
+
+-- the turn of an event that took this text of rates and got this reply
+abbrev pub turn_at : Tariff → Ledger → Event → List ℕ → Reply → Turn
+turn_at τ H e text reply = turn_of reply (after (plan τ todays_rules H e text) reply [])
 
 -- what was sent and released at L, in any run, is what was at H, and this message and this mark, if there are any
 pub record Adds (sent released : Option (List ℕ)) (H L : Ledger) : Type 0 where
@@ -46,16 +55,16 @@ module _ {N S X C : Type 0} (n : Counting S X) (kind : Kind N S C) (m : Node) (d
 
   module _ (τ : Tariff) (H : Ledger) (e : Event) (line : List ℕ) where
     -- The line is that of this reply, which the event may get at this ledger, and the node is seen so at the ledger that it leaves. Everything
-    -- except what was sent is otherwise as it was. Any other reply that the event may get with that line leaves the same ledger.
-    pub record MovesSo (w : View S) (sent released : Option (List ℕ)) (reply : Reply) : Type 0 where
+    -- except what the turn sends is otherwise as it was. Any other reply that the event may get with that line leaves the same ledger.
+    pub record MovesSo (w : View S) (reply : Reply) : Type 0 where
       pub text : text_of reply ≡ line
       pub whole : IsWholeReply reply
       pub moves : Moves τ todays_rules H e [] reply
       pub here : view_in m (kind.seen d) (behind τ H e reply) ≡ w
       pub others : OthersStay bench_kinds m H (behind τ H e reply)
       pub rests : Rests H (behind τ H e reply)
-      pub sends : sent_in (behind τ H e reply) ≡ sent_in H ++ listed sent
-      pub adds : Adds sent released H (behind τ H e reply)
+      pub sends : sent_in (behind τ H e reply) ≡ sent_in H ++ listed (turns.sent_in (turn_at τ H e [] reply).entries)
+      pub adds : Adds (turns.sent_in (turn_at τ H e [] reply).entries) (released_in (turn_at τ H e [] reply).entries) H (behind τ H e reply)
       pub alone : (other : Reply) → Moves τ todays_rules H e [] other → text_of other ≡ line → behind τ H e other ≡ behind τ H e reply
 
     -- no reply that the event may get at this ledger has this line; this was the answer
@@ -70,17 +79,16 @@ module _ {N S X C : Type 0} (n : Counting S X) (kind : Kind N S C) (m : Node) (d
       → day_in H ≡ Some today → IsWholeEvent e
       → routed (sent_in H) (quote_in τ H) e ≡ Some (route.OfDay (work_of asked)) → IsWhole asked → view_in m (kind.seen d) H ≡ v → P τ H e
 
-  -- == of a node that releases nothing and prints nothing ==
-
   -- the judgement of the line is that of what is seen of the node
-  abbrev pub IsByView : ℤ → Asked C → List ℕ → View S → View S → Result (Option (List ℕ)) Reply → Type 0
-  IsByView today asked line v w result = Judged n m v (plan_in today asked v) (commit_in today asked v) line w result
+  abbrev pub IsByView : {T : Type 0} → (T → Turn → Type 0) → ℤ → Asked C → List ℕ → View S → View S → Result T Reply → Type 0
+  IsByView IsOf today asked line v w result = Judged n m v (plan_in today asked v) (commit_in today asked v) IsOf line w result
 
-  abbrev pub MovesBy : Tariff → Ledger → Event → List ℕ → View S → Result (Option (List ℕ)) Reply → Type 0
-  MovesBy τ H e line w (Ok sent) = (reply : Reply) × MovesSo τ H e line w sent None reply
-  MovesBy τ H e line w (Err due) = MovesNever τ H e line w due
+  abbrev pub MovesBy : {T : Type 0} → (T → Turn → Type 0) → Tariff → Ledger → Event → List ℕ → View S → Result T Reply → Type 0
+  MovesBy IsOf τ H e line w (Ok told) = (reply : Reply) × MovesSo τ H e line w reply × IsOf told (turn_at τ H e [] reply)
+  MovesBy IsOf τ H e line w (Err due) = MovesNever τ H e line w due
 
   -- The judgement of the line is that of the ledger, at each history that shows the node so. This holds for each event that asks this of it on this
   -- day and contains nothing forged.
-  abbrev pub IsByLedger : (Asked C → OfDay) → (Asked C → Type 0) → ℤ → Asked C → List ℕ → View S → View S → Result (Option (List ℕ)) Reply → Type 0
-  IsByLedger work_of IsWhole today asked line v w result = ByLedger work_of IsWhole today asked v (λ τ H e. MovesBy τ H e line w result)
+  abbrev pub IsByLedger : {T : Type 0} → (T → Turn → Type 0) → (Asked C → OfDay) → (Asked C → Type 0) → ℤ → Asked C → List ℕ → View S → View S
+      → Result T Reply → Type 0
+  IsByLedger IsOf work_of IsWhole today asked line v w result = ByLedger work_of IsWhole today asked v (λ τ H e. MovesBy IsOf τ H e line w result)

@@ -7,7 +7,7 @@ use Rattle.trace_bench.proofs.Sent.{learnt, ticked}
 use Rattle.trace_bench.proofs.judging.send.Goals as goal
 
 pub returns-in_default-clause-sent : goal.returns-in_default-clause-sent
-returns-in_default-clause-sent c =
+returns-in_default-clause-sent g c =
     let old = audit_of c.args.auditor.now in
     let now = record old { known = c.learn.new.self } in (
       sym (ap (λ s. sending s now) c.in_default.is ∙ sends_nothing now),
@@ -17,7 +17,7 @@ returns-in_default-clause-sent c =
     )
 
 pub returns-in-Ok-clause-sent : goal.returns-in-Ok-clause-sent
-returns-in-Ok-clause-sent c =
+returns-in-Ok-clause-sent g c =
     let old = audit_of c.args.auditor.now in
     let now = record old { known = c.learn.new.self } in (
       ap (λ (l : List (List ℕ)). record now { messages = l }) (c.in-Ok.ensures.items ∙ ap (λ s. old.messages ++ listed s) (sym c.in-Some.is)),

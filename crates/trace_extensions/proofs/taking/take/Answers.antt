@@ -6,10 +6,10 @@ use Rattle.trace_extensions.specs.Rates.{left_of}
 use Rattle.trace_extensions.proofs.Asked.{judged_line}
 use Rattle.trace_extensions.proofs.taking.take.Goals as goal
 
-pub returns-else-used-left-clause-takes : goal.returns-else-used-left-clause-takes
-returns-else-used-left-clause-takes c = λ τ H texts history sees.
+pub returns-else-judged-left-clause-takes : goal.returns-else-judged-left-clause-takes
+returns-else-judged-left-clause-takes g c = λ τ H texts history sees.
     let here = same_sees (audit_of c.args.auditor.now) (audit_of c.admit.new.auditor) c.admit.ensures.same H sees in
     let free = c.in-Ok.ensures.unforged τ H history here in
     let judged = c.in-Ok-judge.ensures.judged τ H texts history free here in
-    judged_line τ H c.args.event.now c.args.line.now (left_of c.args.rates.now) (left_of c.pass.new.self) (audit_of c.judge.new.auditor) c.in-Ok-judge.used free
-    (subst (λ (left : List ℕ). IsJudged τ H c.args.event.now left c.args.line.now (audit_of c.judge.new.auditor) (Ok c.in-Ok-judge.used)) c.left.ensures judged) c.pass.ensures
+    judged_line g.T.Tell.IsOf τ H c.args.event.now c.args.line.now (left_of c.args.rates.now) (left_of c.pass.new.self) (audit_of c.judge.new.auditor) c.in-Ok-judge.judged free
+    (subst (λ (left : List ℕ). IsJudged g.T.Tell.IsOf τ H c.args.event.now left c.args.line.now (audit_of c.judge.new.auditor) (Ok c.in-Ok-judge.judged)) c.left.ensures judged) c.pass.ensures

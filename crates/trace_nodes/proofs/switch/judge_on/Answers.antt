@@ -1,8 +1,10 @@
-use Rattle.std.proofs.Common.{◌≡◌, rules, refl, sym, ap, subst, ◌∙◌, ◌+◌, Some, IsSome, option_map}
+use Rattle.std.proofs.Common.{◌≡◌, inl, rules, refl, sym, ap, subst, ◌∙◌, ◌+◌, Some, IsSome, option_map}
 use Rattle.bench_base.specs.declared.events.Reply.TheVariants as r
+use Rattle.bench_base.specs.Ledger.{Ledger}
 use Rattle.node_acts.specs.Views.{started}
+use Rattle.node_turns.specs.Turns.{turn_of}
 use Rattle.trace_nodes.specs.TracedNodes.{view_of}
-use Rattle.trace_nodes.proofs.Switching.{tells_on, came, more, powered, comes_up, comes_with_more}
+use Rattle.trace_nodes.proofs.Switching.{tells_on, adds_none, came, more, powered, comes_up, comes_with_more}
 use Rattle.trace_nodes.proofs.switch.judge_on.Goals as goal
 
 pub returns-then-is_told-2-clause-judged : goal.returns-then-is_told-2-clause-judged
@@ -11,6 +13,7 @@ returns-then-is_told-2-clause-judged g c =
       r.Up c.args.node.now c.commits-commits.result,
       tells_on g.R.Record.counting c.args.node.now v c.if-traced.false c.one_reply.ensures.law c.names_a_node.ensures (search (rules, c.commits-commits.ensures.few))
           c.args.line.now _ _ (came (ap (r.Up c.args.node.now) c.commits-commits.ensures.value)) (search rules) c.is_told-2.ensures.whole (sym (comes_up g.R.Record.counting v c.commits-commits.result c.commits-commits.ensures.value)),
+      c.came_up.ensures,
     )
 
 pub returns-then-is_told-3-clause-judged : goal.returns-then-is_told-3-clause-judged
@@ -23,6 +26,7 @@ returns-then-is_told-3-clause-judged g c =
       tells_on n c.args.node.now v c.if-traced.false c.one_reply.ensures.law c.names_a_node.ensures (search (rules, c.commits-commits.ensures.few))
           c.args.line.now _ _ (more (subst IsSome (sym open_one) refl) (ap (λ k. r.Up c.args.node.now (k + 1)) c.commits-commits.ensures.value)) (search rules) c.is_told-in-Some.ensures.whole
           (ap started c.put.ensures ∙ sym (comes_with_more n v c.commits-commits.result next c.commits-commits.ensures.value open_one)),
+      c.came_up-then-is_told-3.ensures,
     )
 
 pub returns-then-is_told-4-clause-judged : goal.returns-then-is_told-4-clause-judged
@@ -31,4 +35,6 @@ returns-then-is_told-4-clause-judged g c =
       r.Power c.args.node.now,
       tells_on g.R.Record.counting c.args.node.now v c.if-traced.false c.one_reply.ensures.law c.names_a_node.ensures (search (rules, c.commits-commits.ensures.few))
           c.args.line.now _ _ (powered refl) (search rules) c.is_told-3.ensures.whole refl,
+      subst (λ (l : Ledger). g.T.Tell.IsOf c.silent-then-is_told-4.result (turn_of (r.Power c.args.node.now) l))
+          (adds_none g.R.Record.counting c.args.node.now v c.if-traced.false (r.Power c.args.node.now) c.args.node.now (inl refl)) c.silent-then-is_told-4.ensures,
     )

@@ -28,7 +28,7 @@ returns-in-Some-clause-answers g c = record {
       let behind = c.over.ensures.over.0.bytes ++ told in
       ends_here c.args.number c.requires.inside script line lines c.args.event.now begins (ended c.args.line.now ++ behind) c.args.rates.now (audit_of c.args.auditor.now) (audit_of c.judge.new.auditor)
       c.args.line.now behind (record { one = c.requires.one; is = refl })
-      c.in-Ok.used c.requires.unforged c.in-Ok.ensures.judged c.one_reply.ensures.law c.due_mark-mark.result c.due_mark-mark.ensures c.given_in-given.result c.given_in-given.ensures c.over.result c.args.imprints.now.items c.in-Some.ensures.done.1 over) c.over.ensures.over.1;
+      c.in-Ok.judged.taken c.requires.unforged (λ τ H texts history unforged sees. let w = c.in-Ok.ensures.judged τ H texts history unforged sees in (w.0, w.1, w.2)) c.one_reply.ensures.law c.due_mark-mark.result c.due_mark-mark.ensures c.given_in-given.result c.given_in-given.ensures c.over.result c.args.imprints.now.items c.in-Some.ensures.done.1 over) c.over.ensures.over.1;
 }
 
 pub returns-in-Ok-keep-clause-answers : goal.returns-in-Ok-keep-clause-answers
@@ -38,7 +38,7 @@ returns-in-Ok-keep-clause-answers g c = record {
   so = λ behind script line lines begins.
       goes_on c.args.number c.requires.inside script line lines c.args.event.now begins (ended c.args.line.now ++ behind) c.args.rates.now (audit_of c.args.auditor.now) (audit_of c.judge.new.auditor)
       c.args.line.now behind (record { one = c.requires.one; is = refl })
-      c.in-Ok.used c.requires.unforged c.in-Ok.ensures.judged c.one_reply.ensures.law c.due_mark-mark.result c.due_mark-mark.ensures c.given_in-given.result c.given_in-given.ensures c.args.imprints.now.items c.keep.new.imprints.items c.in-None.ensures.goes_on c.in-Ok-keep.ensures.ok;
+      c.in-Ok.judged.taken c.requires.unforged (λ τ H texts history unforged sees. let w = c.in-Ok.ensures.judged τ H texts history unforged sees in (w.0, w.1, w.2)) c.one_reply.ensures.law c.due_mark-mark.result c.due_mark-mark.ensures c.given_in-given.result c.given_in-given.ensures c.args.imprints.now.items c.keep.new.imprints.items c.in-None.ensures.goes_on c.in-Ok-keep.ensures.ok;
 }
 
 pub returns-in-Err-clause-answers : goal.returns-in-Err-clause-answers

@@ -33,9 +33,9 @@ returns-else-own_line-clause-done g c = ends g.D.Extension c.args.number c.args.
 pub returns-in-Some-clause-done : goal.returns-in-Some-clause-done
 returns-in-Some-clause-done g c =
     let w = rw c.in-Ok-None.field-0-is at c.in-Ok-None.ensures.passes in
-    heard g.D.Extension c.args.number c.args.line.now (audit_of c.args.auditor.now) (audit_of c.answer.new.auditor) (left_of c.args.rates.now) (left_of c.answer.new.rates) c.args.desk.now
-    c.begin-begun.new.self _ _ (g.K.Sink.taken c.args._report.now) c.in-Ok.event (take c.in-Some.field-0 c.answer.new.buf) c.ended_by.result c.answer.ensures.kept
-    (read_as c.args.line.now c.read_event.result c.in-Ok.event c.in-Ok.is c.read_event.ensures.found) w.0 w.2 g.met.D.TracedExtension.unmoved c.in-Some.ensures.heard.0 c.in-Some.ensures.heard.1
+    heard g.D.Extension c.args.number c.args.line.now g.D.Heard.Tell.IsOf c.in-Some.answered.told (audit_of c.args.auditor.now) (audit_of c.answer.new.auditor) (left_of c.args.rates.now) (left_of c.answer.new.rates) c.args.desk.now
+    c.see.new.self _ _ (g.K.Sink.taken c.args._report.now) c.in-Ok.event (take c.in-Some.answered.len c.answer.new.buf) c.ended_by.result c.answer.ensures.kept
+    (read_as c.args.line.now c.read_event.result c.in-Ok.event c.in-Ok.is c.read_event.ensures.found) w.0 (λ turn is. subst (λ x. g.D.Extension.Sees x c.in-Ok.event turn c.see.new.self) w.2 (c.see.ensures turn is)) c.in-Some.ensures.heard.0 c.in-Some.ensures.heard.1
     c.ended_by.ensures.goes_on c.ended_by.ensures.done
 
 pub returns-in-None-clause-done : goal.returns-in-None-clause-done
