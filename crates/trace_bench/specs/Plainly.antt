@@ -1,5 +1,5 @@
 -- What is heard of an event by its line.
-use Rattle.std.specs.Prelude.{◌≡◌, ◌≢◌, List, ℕ, Some, None, Option, Result, Ok, Err}
+use Rattle.std.specs.Prelude.{◌≡◌, ◌≢◌, List, ℕ, None, Option, Result, Ok, Err}
 use Rattle.bench_base.specs.Ledger.{Ledger}
 use Rattle.bench_base.specs.declared.events.Reply.{Reply}
 use Rattle.node_turns.specs.Turns.{turn_of}

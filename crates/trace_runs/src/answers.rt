@@ -14,8 +14,9 @@ ghost use Rattle.trace_runs.specs.declared.verdict.Input.{Input};
 use crate::ends::over;
 use crate::imprint::{Imprint, due_mark, given_in, keep};
 use crate::stopping::stopped;
+use crate::untold::Untold;
 use crate::verdict::{Ending, Input, Verdict};
-use bench_base::events::{Event, Reply};
+use bench_base::events::Event;
 use bench_base::stream::Source;
 use line_extensions::ended_by;
 use line_runs::lines::{LineRead, read_line};
@@ -55,7 +56,7 @@ fn judge_line<R: Source>(
     one_reply();
     let mark = due_mark(auditor, event);
     let given = given_in(event, mark, line);
-    match judge::<Reply>(alloc, auditor, event, rates, line) {
+    match judge::<Untold>(alloc, auditor, event, rates, line) {
         Err(Finding::Wrong(due)) => Err(Verdict::Wrong(number, due)),
         Err(Finding::Memory) => Err(Verdict::Memory),
         Ok(judged) => match ended_by(event) {

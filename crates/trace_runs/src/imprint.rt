@@ -84,7 +84,7 @@ fn taken_by(job: u32, prefix: &[u8]) -> Printed
 }
 
 // What the printer was given in an event that prints this mark if nothing fails, and has this prefix of its line in the report, if anything.
-pub(crate) fn open_in(event: &Event, due: Option<[u8; 64]>, prefix: &[u8]) -> Option<Given>
+pub fn open_in(event: &Event, due: Option<[u8; 64]>, prefix: &[u8]) -> Option<Given>
     ensures { LeavesOpen event.now due prefix.now result }
 {
     let Event::Print(job) = event else {

@@ -11,6 +11,7 @@ mod places;
 pub mod prints;
 pub mod runs;
 mod stopping;
+mod untold;
 pub mod verdict;
 
 pub use audit::{audit_run, behind};

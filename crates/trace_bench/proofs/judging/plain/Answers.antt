@@ -1,4 +1,3 @@
-use Rattle.std.proofs.Common.{rules, sym}
 use Rattle.trace_bench.proofs.judging.plain.Goals as goal
 
 pub returns-then-is_told : goal.returns-then-is_told
