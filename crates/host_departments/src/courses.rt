@@ -6,7 +6,7 @@ ghost use Rattle.node_acts.specs.RowList.{put};
 ghost use Rattle.host_departments.specs.Courses.{Says, Tries, Assigns, Free, Begins, Hears, Sent, TakesBy};
 ghost use Rattle.host_departments.specs.DepartmentLines.{IsLine};
 ghost use Rattle.host_departments.specs.Payload.{IsFit};
-ghost use Rattle.host_departments.specs.Rows.{quota, spent, IsDepartment, Has, IsAssigned, Keeps, IsSound};
+ghost use Rattle.host_departments.specs.Rows.{quota, row_in, spent, IsDepartment, Has, IsAssigned, Keeps, IsSound};
 ghost use Rattle.host_departments.specs.View.{rows_of};
 ghost use Rattle.host_departments.specs.Waits.{IsWaiting, MayTake};
 ghost use Rattle.host_departments.specs.declared.row.TheConstants.{CELLS};
@@ -16,7 +16,7 @@ use crate::answer::Answer;
 use crate::desk::Departments;
 use crate::heard::{Heard, postage_taken};
 use crate::index::{indexed_cell, note_row};
-use crate::kept::{first_cell, jobs, quota, spent};
+use crate::kept::{first_cell, jobs, quota, row_in, spent};
 use crate::payload::{DepartmentRows, department_of};
 use crate::row::{CELLS, DepartmentLine, DepartmentRow, JOBS};
 use bench_base::events::Event;
@@ -26,6 +26,13 @@ use nv_model::Nv;
 use row_store::commit_row;
 
 impl<N: Nv> Departments<N> {
+    /// What this cell keeps, of 0 to 1,039; nothing after these.
+    pub fn row(&self, cell: u32) -> Option<DepartmentRow>
+        ensures { result ≡ row_in (rows_of self.now) cell }
+    {
+        row_in(&self.room, CELLS, cell)
+    }
+
     // The quota of a department, in mills, if one was set.
     fn quota(&self, department: u32) -> Option<u32>
         requires is { IsDepartment department }

@@ -106,6 +106,14 @@ impl<N: Nv> Desk<N> {
         row_in::<ClaimRows, 73>(&self.room, claim - 1)
     }
 
+    /// The claim of this number, if it is kept.
+    pub fn claim(&self, number: u32) -> Option<ClaimRow>
+        requires first { 1 ≤ number }
+        ensures { result ≡ kept (rows_of self.now) number }
+    {
+        self.kept(number)
+    }
+
     // The last claim.
     fn last(&self) -> u32
         ensures is { result ≡ last_claim (rows_of self.now) }
