@@ -1,18 +1,12 @@
 -- A step that an extension asked for, taken with the reply that it hears of.
-use Rattle.std.specs.Prelude.{ℤ, not, ◌&&◌, is_some, take, if◌then◌else◌}
-use Rattle.std.proofs.Common.{◌≢◌, false, Bool, ◌≡◌, ◌⊎◌, inl, inr, ℕ, List, [], ◌∷◌, ◌++◌, length, drop, Option, Ok, refl, sym, ◌∙◌, ap, subst}
-use Rattle.bench_base.specs.declared.{words.Node.Node, events.Event.Event, events.Reply.Reply}
-use Rattle.bench_base.specs.declared.events.Event.TheVariants as ev
-use Rattle.bench_base.specs.declared.events.Reply.TheVariants as r
-use Rattle.bench_base.specs.Events.{IsWholeEvent, takes_rates}
+use Rattle.std.proofs.Common.{◌≡◌, ◌⊎◌, inl, inr, ℕ, List, [], ◌∷◌, ◌++◌, drop, Ok, refl, sym, ◌∙◌, ap, subst}
+use Rattle.bench_base.specs.declared.events.Event.{Event}
 use Rattle.bench_base.specs.Ledger.{Ledger, day_in}
-use Rattle.bench_base.specs.Replies.{ReplyClass, Did, class_of, fails_to_read}
-use Rattle.bench_base.specs.Rules.{todays_rules, editions}
+use Rattle.bench_base.specs.Replies.{class_of}
+use Rattle.bench_base.specs.Rules.{editions}
 use Rattle.bench_abstraction.specs.Tariff.{IsOfTexts}
 use Rattle.ledger_moves.specs.Tariffs.{Tariff}
 use Rattle.ledger_moves.specs.Histories.{History, Unforged, moves}
-use Rattle.ledger_moves.specs.Moves.{answer}
-use Rattle.script_text.specs.Texts.{text_of, IsWholeReply, told}
 use Rattle.line_extensions.specs.Trace.{StepRecord, done}
 use Rattle.line_extensions.specs.Desks.{World, world, Asks, Asked}
 use Rattle.line_extensions.specs.declared.{extension.Extension.Ghosts, extension.Next.Next, extension.Next.TheVariants.Step}
@@ -20,13 +14,12 @@ use Rattle.script_replay.specs.Trace.{ledger_by}
 use Rattle.node_turns.specs.declared.turn.Turn.{Turn}
 use Rattle.trace_bench.specs.declared.judging.Judged.{Judged}
 use Rattle.trace_bench.specs.Judging.{IsJudged, taken_by}
-use Rattle.trace_bench.specs.Prefixes.{IsDue}
 use Rattle.trace_bench.specs.Seeing.{Audit, Sees}
-use Rattle.trace_runs.specs.Audits.{MayTell}
-use Rattle.trace_runs.proofs.One.{same_ledger, same_left}
+use Rattle.trace_bench.specs.Stopping.{IsBegun}
 use Rattle.trace_extensions.specs.Places.{Place, place, turn_at, MayStep}
-use Rattle.trace_extensions.specs.Takes.{AtEachSeen, TakesAt}
-use Rattle.trace_extensions.specs.Worlds.{AuditWorld, audit_world, AskedOne, AskedSo}
+use Rattle.trace_extensions.specs.Stops.{StepBegun}
+use Rattle.trace_extensions.specs.Takes.{AtEachSeen, TakesAt, IsBegunAt}
+use Rattle.trace_extensions.specs.Worlds.{AskedOne, AskedSo, OneBegun}
 
 -- what is judged of a line is taken
 pub judged_line : {T : Type 0} (IsOf : T → Turn → Type 0) (τ : Tariff) (H : Ledger) (e : Event) (line left left1 : List ℕ) (now : Audit) (judged : Judged T) → Unforged e H
@@ -56,10 +49,10 @@ module _ {K T : Type 0} (k : Ghosts K T) (τ : Tariff) where
 
 module _ {K T : Type 0} (k : Ghosts K T) where
   -- one step, of which the extension heard
-  pub asked_one : (τ : Tariff) (H : Ledger) (e : Event) (line left left1 : List ℕ) (new : Audit) (desk desk1 : K) (next : Next) (report : Option (List ℕ)) → History τ editions H
+  pub asked_one : (τ : Tariff) (H : Ledger) (e : Event) (line left left1 : List ℕ) (new : Audit) (desk desk1 : K) (next : Next) → History τ editions H
       → (d : StepRecord) → TakesAt τ H e line new left left1 d → k.Goes desk (turn_at τ H d) next desk1
-      → AskedOne k τ e (world (place H left) desk) (audit_world new left1 desk1 report) next
-  asked_one τ H e line left left1 new desk desk1 next report history d t goes = record {
+      → AskedOne k τ e (world (place H left) desk) new left1 desk1 next
+  asked_one τ H e line left left1 new desk desk1 next history d t goes = record {
     d = d;
     turn = turn_at τ H d;
     new = world (place (ledger_by τ H d) left1) desk1;
@@ -70,9 +63,9 @@ module _ {K T : Type 0} (k : Ghosts K T) where
   }
 
   -- nothing was asked for yet
-  pub asked_none : (τ : Tariff) (H : Ledger) (left : List ℕ) (a : Audit) (desk : K) (report : Option (List ℕ)) (first : Next) → History τ editions H → Sees a H
-      → AskedSo k τ (world (place H left) desk) (audit_world a left desk report) first first
-  asked_none τ H left a desk report first history sees = record {
+  pub asked_none : (τ : Tariff) (H : Ledger) (left : List ℕ) (a : Audit) (desk : K) (first : Next) → History τ editions H → Sees a H
+      → AskedSo k τ (world (place H left) desk) a left desk first first
+  asked_none τ H left a desk first history sees = record {
     steps = [];
     new = world (place H left) desk;
     asks = (refl, refl);
@@ -80,15 +73,15 @@ module _ {K T : Type 0} (k : Ghosts K T) where
   }
 
   -- one step more
-  pub asked_more : (τ : Tariff) (texts : IsOfTexts τ) (old : World Place K) (mid : Audit) (left : List ℕ) (desk : K) (w : AuditWorld K) (report : Option (List ℕ)) (first : Next) (e : Event) (next last : Next)
-      → next ≡ Step e → AskedSo k τ old (audit_world mid left desk report) first next
-      → AtEachSeen mid (λ τ H. AskedOne k τ e (world (place H left) desk) w last) → AskedSo k τ old w first last
-  asked_more τ texts old mid left desk w report first e next last is so more =
+  pub asked_more : (τ : Tariff) (texts : IsOfTexts τ) (old : World Place K) (mid : Audit) (left : List ℕ) (desk : K) (a : Audit) (rates : List ℕ) (desk1 : K) (first : Next) (e : Event) (next last : Next)
+      → next ≡ Step e → AskedSo k τ old mid left desk first next
+      → AtEachSeen mid (λ τ H. AskedOne k τ e (world (place H left) desk) a rates desk1 last) → AskedSo k τ old a rates desk1 first last
+  asked_more τ texts old mid left desk a rates desk1 first e next last is so more =
       let here = so.seen in
       let next_step = more τ so.new.scene.ledger texts here.history here.sees in
       let there : world (place so.new.scene.ledger left) desk ≡ so.new =
       ap (λ (l : List ℕ). world (place so.new.scene.ledger l) desk) (sym here.left) ∙ ap (λ (x : K). world (place so.new.scene.ledger so.new.scene.left) x) (sym here.desk) in
-      let one = subst (λ (at : World Place K). AskedOne k τ e at w last) there next_step in
+      let one = subst (λ (at : World Place K). AskedOne k τ e at a rates desk1 last) there next_step in
       record {
         steps = so.steps ++ one.d ∷ [];
         new = one.new;
@@ -96,3 +89,22 @@ module _ {K T : Type 0} (k : Ghosts K T) where
             (record { asks = is ∙ ap Step (sym one.event); turn = one.turn; did = one.did; goes = one.goes });
         seen = one.seen;
       }
+
+  -- one step more was begun
+  pub begun_after : (τ : Tariff) (texts : IsOfTexts τ) (old : World Place K) (mid : Audit) (left : List ℕ) (desk : K) (a : Audit) (first next : Next) (e : Event) (told : List ℕ) → next ≡ Step e
+      → AskedSo k τ old mid left desk first next → ((reply : List ℕ) × IsBegunAt e reply left mid a) ⊎ ((told ≡ []) × AtEachSeen mid (λ τ H. Sees a H)) → OneBegun k τ old first told a desk
+  begun_after τ texts old mid left desk a first next e told is so begun = record {
+    steps = so.steps;
+    new = so.new;
+    event = e;
+    asks = subst (λ (n : Next). Asks k (MayStep τ) old so.new first so.steps n) is so.asks;
+    history = so.seen.history;
+    begun = by begun;
+    left = sym so.seen.desk;
+  }
+    where
+      by : ((reply : List ℕ) × IsBegunAt e reply left mid a) ⊎ ((told ≡ []) × AtEachSeen mid (λ τ H. Sees a H)) → StepBegun τ so.new.scene e told a
+      by (inl w) =
+          let b = w.1 τ so.new.scene.ledger texts so.seen.history so.seen.sees in
+          inl (w.0, b.0, subst (λ (l : List ℕ). IsBegun τ so.new.scene.ledger e l w.0 a) (sym so.seen.left) b.1)
+      by (inr w) = inr (w.0, w.1 τ so.new.scene.ledger texts so.seen.history so.seen.sees)

@@ -1,10 +1,12 @@
 -- What became of one line of an audit.
-use Rattle.std.proofs.Common.{◌≡◌, ◌≢◌, ℕ, List, [], flat_map, Option, Some, None, IfNone, IfSome, refl, sym, ap, subst}
+use Rattle.std.proofs.Common.{◌≡◌, ◌≢◌, ◌⊎◌, inl, inr, ℕ, List, [], flat_map, Option, Some, None, IfNone, IfSome, refl, sym, ap, subst}
 use Rattle.std.proofs.KnownBytes.{Appends-nil, Consumes-nil}
-use Rattle.std.specs.Io.KnownBytes.{Consumes}
+use Rattle.std.specs.Io.KnownBytes.{Consumes, IsAtEnd}
 use Rattle.bench_base.specs.declared.events.Event.{Event}
 use Rattle.bench_base.specs.declared.events.Event.TheVariants as ev
 use Rattle.bench_base.specs.Events.{IsWholeEvent}
+use Rattle.bench_base.specs.Ledger.{Ledger}
+use Rattle.ledger_moves.specs.Tariffs.{Tariff}
 use Rattle.ledger_moves.specs.Histories.{moves}
 use Rattle.node_turns.specs.declared.turn.Turn.{Turn}
 use Rattle.script_text.specs.Grammar.{Spells, IsSkipped}
@@ -17,11 +19,32 @@ use Rattle.line_extensions.specs.Events.{IsLineOf}
 use Rattle.line_extensions.specs.Wants.{IsEvent}
 use Rattle.line_extensions.specs.declared.{extension.Extension.Ghosts, extension.Next.Next, extension.Next.TheVariants.Say}
 use Rattle.script_replay.specs.Trace.{ledger_by}
-use Rattle.trace_bench.specs.Seeing.{Audit, keeps}
+use Rattle.trace_bench.specs.Seeing.{Audit, Sees, keeps}
+use Rattle.trace_bench.specs.Stopping.{IsPrefixOf}
 use Rattle.trace_extensions.specs.Places.{place, turn_at}
-use Rattle.trace_extensions.specs.Steps.{Passed, Heard, Own, Ended, audit_lines}
-use Rattle.trace_extensions.specs.Takes.{AtEachSeen, TakesLine}
-use Rattle.trace_extensions.specs.Worlds.{AuditWorld, audit_world, AuditLeaves, AskedSo, DidAudit}
+use Rattle.trace_extensions.specs.Steps.{AuditWorld, audit_world, IsStop, Passed, Heard, Own, Begun, Ended, audit_lines}
+use Rattle.trace_extensions.specs.Takes.{AtEachSeen, TakesLine, EndsWithin}
+use Rattle.trace_extensions.specs.Worlds.{AuditLeaves, AskedSo, DidAudit, LeftSo, all_asked, one_begun, ReadsInOwn}
+use Rattle.trace_extensions.specs.Stops.{LeftAt, event_begun, none_begun, own_done, own_begun}
+use Rattle.trace_extensions.specs.declared.papers.SideVerdict.{SideVerdict}
+use Rattle.trace_extensions.specs.declared.papers.SideVerdict.TheVariants as verdict
+
+neither : (v : SideVerdict) → ((n : ℕ) → v ≡ verdict.Stopped n → ⊥) → ((n : ℕ) → v ≡ verdict.StoppedInOwn n → ⊥) → ((n : ℕ) × ((v ≡ verdict.Stopped n) ⊎ (v ≡ verdict.StoppedInOwn n))) → ⊥
+neither v none own (n, inl is) = none n is
+neither v none own (n, inr is) = own n is
+
+-- whether the verdict is a stop, with what may have been done told
+is_stop : (v : SideVerdict) → ((n : ℕ) × ((v ≡ verdict.Stopped n) ⊎ (v ≡ verdict.StoppedInOwn n))) ⊎ (((n : ℕ) × ((v ≡ verdict.Stopped n) ⊎ (v ≡ verdict.StoppedInOwn n))) → ⊥)
+is_stop (verdict.Stopped n) = inl (n, inl refl)
+is_stop (verdict.StoppedInOwn n) = inl (n, inr refl)
+is_stop (verdict.Wrong m) = inr (neither (verdict.Wrong m) (λ n is. absurd (cc is)) (λ n is. absurd (cc is)))
+is_stop (verdict.Forged m) = inr (neither (verdict.Forged m) (λ n is. absurd (cc is)) (λ n is. absurd (cc is)))
+is_stop (verdict.Unkept m) = inr (neither (verdict.Unkept m) (λ n is. absurd (cc is)) (λ n is. absurd (cc is)))
+is_stop (verdict.InDoubt m) = inr (neither (verdict.InDoubt m) (λ n is. absurd (cc is)) (λ n is. absurd (cc is)))
+is_stop (verdict.More m end) = inr (neither (verdict.More m end) (λ n is. absurd (cc is)) (λ n is. absurd (cc is)))
+is_stop (verdict.Lawful end) = inr (neither (verdict.Lawful end) (λ n is. absurd (cc is)) (λ n is. absurd (cc is)))
+is_stop (verdict.Unread input) = inr (neither (verdict.Unread input) (λ n is. absurd (cc is)) (λ n is. absurd (cc is)))
+is_stop verdict.Memory = inr (neither verdict.Memory (λ n is. absurd (cc is)) (λ n is. absurd (cc is)))
 
 module _ {K T : Type 0} (k : Ghosts K T) (number : ℕ) (line : List ℕ) where
   abbrev pub End : Option SideStatus → AuditWorld K → AuditWorld K → Option (List ℕ) → Option (List ℕ) → Type 0
@@ -32,32 +55,128 @@ module _ {K T : Type 0} (k : Ghosts K T) (number : ℕ) (line : List ℕ) where
     trace_step = Passed line;
     line_is = refl;
     is = is;
-    did = record { kept = refl; report = (w.report, Consumes-nil w.report, refl); may = λ τ H texts history sees. record { history = history; sees = sees; left = refl; desk = refl } };
+    did = record { kept = refl; took = (w, Consumes-nil w.report, refl); may = λ τ H texts history sees. record { history = history; sees = sees; left = refl; desk = refl } };
     reported = (tt, Appends-nil taken);
   })
 
+  -- the report was read to its end, and what may have been done for the line is left
+  abbrev pub EndsAt : AuditWorld K → AuditWorld K → Type 0
+  EndsAt old new = (told : List ℕ) × Consumes old.report new.report told × IsAtEnd new.report
+      × AtEachSeen old.audit (λ τ H. LeftAt k τ (world (place H old.rates) old.desk) line told new.audit new.desk)
+
   -- the audit ended
-  pub ends : (old new : AuditWorld K) (taken : Option (List ℕ)) → keeps new.audit ≡ keeps old.audit → End (Some Stopped) old new taken taken
-  ends old new taken kept = LineEnd.did (record {
-    trace_step = Ended line;
-    line_is = refl;
-    is = tt;
-    did = record { kept = kept; report = tt; may = λ τ H texts history sees. tt };
-    reported = (tt, refl);
+  pub ends : (old new : AuditWorld K) (taken : Option (List ℕ)) → keeps new.audit ≡ keeps old.audit → (IsStop new → EndsAt old new) → End (Some Stopped) old new taken taken
+  ends old new taken kept stops = by (is_stop new.verdict)
+    where
+      by : ((n : ℕ) × ((new.verdict ≡ verdict.Stopped n) ⊎ (new.verdict ≡ verdict.StoppedInOwn n))) ⊎ (((n : ℕ) × ((new.verdict ≡ verdict.Stopped n) ⊎ (new.verdict ≡ verdict.StoppedInOwn n))) → ⊥)
+          → End (Some Stopped) old new taken taken
+      by (inl stop) =
+          let at = stops stop in
+          LineEnd.did (record {
+            trace_step = Begun line at.0 new;
+            line_is = refl;
+            is = tt;
+            did = record { kept = kept; took = (at.1, at.2, refl); may = λ τ H texts history sees. (history, at.3 τ H texts history sees) };
+            reported = (tt, refl);
+          })
+      by (inr none) = LineEnd.did (record {
+        trace_step = Ended line new;
+        line_is = refl;
+        is = none;
+        did = record { kept = kept; took = refl; may = λ τ H texts history sees. tt };
+        reported = (tt, refl);
+      })
+
+  -- no stop is said
+  pub ends_without : (old new : AuditWorld K) (taken : Option (List ℕ)) → keeps new.audit ≡ keeps old.audit → ((n : ℕ) → new.verdict ≡ verdict.Stopped n → ⊥)
+      → ((n : ℕ) → new.verdict ≡ verdict.StoppedInOwn n → ⊥) → End (Some Stopped) old new taken taken
+  ends_without old new taken kept none own = ends old new taken kept by
+    where
+      by : IsStop new → EndsAt old new
+      by (n, inl is) = absurd (none n is)
+      by (n, inr is) = absurd (own n is)
+
+  -- the answer to an event was not taken
+  pub untaken : (old new : AuditWorld K) (taken : Option (List ℕ)) (e : Event) → keeps new.audit ≡ keeps old.audit → IsLineOf e line → k.Passes old.desk line → new.desk ≡ old.desk
+      → ((n : ℕ) → new.verdict ≡ verdict.Stopped n → EndsWithin e old.rates old.audit new.audit old.report new.report) → ((n : ℕ) → new.verdict ≡ verdict.StoppedInOwn n → ⊥)
+      → End (Some Stopped) old new taken taken
+  untaken old new taken e kept is passes same within own = ends old new taken kept by
+    where
+      by : IsStop new → EndsAt old new
+      by (n, inl stop) =
+          let w = within n stop in (
+            w.0,
+            w.2,
+            w.3,
+            λ τ H texts history sees. let it = w.1 τ H texts history sees in event_begun (record { event = e; is = is; passes = passes; unforged = it.0; begun = it.1; stays = same }),
+          )
+      by (n, inr stop) = absurd (own n stop)
+
+  -- nothing of the line was begun
+  pub unbegun : (old new : AuditWorld K) (taken : Option (List ℕ)) → new.audit ≡ old.audit → new.desk ≡ old.desk → ((n : ℕ) → new.verdict ≡ verdict.Stopped n → ⊥)
+      → ((n : ℕ) → new.verdict ≡ verdict.StoppedInOwn n → Consumes old.report new.report [] × IsAtEnd new.report) → End (Some Stopped) old new taken taken
+  unbegun old new taken audit same none own = ends old new taken (ap (λ (a : Audit). keeps a) audit) by
+    where
+      by : IsStop new → EndsAt old new
+      by (n, inl stop) = absurd (none n stop)
+      by (n, inr stop) =
+          let w = own n stop in
+          ([], w.0, w.1, λ τ H texts history sees. none_begun (record { silent = refl; sees = subst (λ (a : Audit). Sees a H) (sym audit) sees; stays = same }))
+
+  -- of an own line that was begun
+  own_left : (τ : Tariff) (H : Ledger) (rates : List ℕ) (desk mid desk1 : K) (audit1 : Audit) (own : k.Own) (first : Next) (told : List ℕ) → k.IsOwn own line → k.Begins desk own first mid
+      → LeftSo k τ (world (place H rates) mid) first told audit1 desk1 → LeftAt k τ (world (place H rates) desk) line told audit1 desk1
+  own_left τ H rates desk mid desk1 audit1 own first told is begins (all_asked all) = own_done (record {
+    own = own;
+    is = is;
+    steps = all.asked.steps;
+    behind = all.asked.new;
+    did = record { first = first; desk = mid; begins = begins; asks = all.asked.asks };
+    begins = subst (λ (d : K). IsPrefixOf told (flat_map ended (k.texts d))) (sym all.asked.seen.desk) all.begins;
+    history = all.asked.seen.history;
+    sees = all.asked.seen.sees;
+    left = sym all.asked.seen.desk;
+  })
+  own_left τ H rates desk mid desk1 audit1 own first told is begins (one_begun one) = own_begun (record {
+    own = own;
+    is = is;
+    steps = one.steps;
+    behind = one.new;
+    event = one.event;
+    did = record { first = first; desk = mid; begins = begins; asks = one.asks };
+    history = one.history;
+    begun = one.begun;
+    left = one.left;
   })
 
-  -- the extension answered, and the report has its texts
-  pub answered : (audit0 audit1 : Audit) (left0 left1 : List ℕ) (desk mid desk1 : K) (report0 report1 : Option (List ℕ)) (taken : Option (List ℕ)) (own : k.Own) (first : Next)
+  -- the report ended within the answer to an own line
+  pub own_stopped : (audit0 audit1 : Audit) (left0 left1 : List ℕ) (desk mid desk1 : K) (report0 report1 : Option (List ℕ)) (v0 v1 : SideVerdict) (taken : Option (List ℕ)) (own : k.Own) (first : Next)
       → keeps audit1 ≡ keeps audit0 → k.IsOwn own line → k.Begins desk own first mid
-      → AtEachSeen audit0 (λ τ H. AskedSo k τ (world (place H left0) mid) (audit_world audit1 left1 desk1 None) first Say)
-      → Consumes report0 report1 (flat_map ended (k.texts desk1)) → End None (audit_world audit0 left0 desk report0) (audit_world audit1 left1 desk1 report1) taken taken
-  answered audit0 audit1 left0 left1 desk mid desk1 report0 report1 taken own first kept is begins asked read = LineEnd.did (record {
+      → ((n : ℕ) → v1 ≡ verdict.Stopped n → ReadsInOwn k audit0 left0 mid first report0 audit1 desk1 report1)
+      → ((n : ℕ) → v1 ≡ verdict.StoppedInOwn n → ReadsInOwn k audit0 left0 mid first report0 audit1 desk1 report1)
+      → End (Some Stopped) (audit_world audit0 left0 desk report0 v0) (audit_world audit1 left1 desk1 report1 v1) taken taken
+  own_stopped audit0 audit1 left0 left1 desk mid desk1 report0 report1 v0 v1 taken own first kept is begins one two =
+      ends (audit_world audit0 left0 desk report0 v0) (audit_world audit1 left1 desk1 report1 v1) taken kept by
+    where
+      so : ReadsInOwn k audit0 left0 mid first report0 audit1 desk1 report1 → EndsAt (audit_world audit0 left0 desk report0 v0) (audit_world audit1 left1 desk1 report1 v1)
+      so r = (r.0, r.1, r.2, λ τ H texts history sees. own_left τ H left0 desk mid desk1 audit1 own first r.0 is begins (r.3 τ H texts history sees))
+
+      by : IsStop (audit_world audit1 left1 desk1 report1 v1) → EndsAt (audit_world audit0 left0 desk report0 v0) (audit_world audit1 left1 desk1 report1 v1)
+      by (n, inl stop) = so (one n stop)
+      by (n, inr stop) = so (two n stop)
+
+  -- the extension answered, and the report has its texts
+  pub answered : (audit0 audit1 : Audit) (left0 left1 : List ℕ) (desk mid desk1 : K) (report0 report1 : Option (List ℕ)) (v0 v1 : SideVerdict) (taken : Option (List ℕ)) (own : k.Own) (first : Next)
+      → keeps audit1 ≡ keeps audit0 → k.IsOwn own line → k.Begins desk own first mid
+      → AtEachSeen audit0 (λ τ H. AskedSo k τ (world (place H left0) mid) audit1 left1 desk1 first Say)
+      → Consumes report0 report1 (flat_map ended (k.texts desk1)) → End None (audit_world audit0 left0 desk report0 v0) (audit_world audit1 left1 desk1 report1 v1) taken taken
+  answered audit0 audit1 left0 left1 desk mid desk1 report0 report1 v0 v1 taken own first kept is begins asked read = LineEnd.did (record {
     trace_step = Own line own (k.texts desk1);
     line_is = refl;
     is = is;
     did = record {
       kept = kept;
-      report = (report1, read, refl);
+      took = (audit_world audit1 left1 desk1 report1 v1, read, refl);
       may = λ τ H texts history sees.
           let so = asked τ H texts history sees in (
             so.steps,
@@ -76,18 +195,18 @@ module _ {K T : Type 0} (k : Ghosts K T) (number : ℕ) (line : List ℕ) where
       subst (λ (o : SideStatus). Reported (Some o) (e ≢ ev.End) (e ≡ ev.End) ⊥ [] taken taken) (sym end.0) (end.1, Appends-nil taken)
 
   -- an event got an answer that the auditor took
-  pub heard : {A : Type 0} (IsOf : A → Turn → Type 0) (told : A) (audit0 audit1 : Audit) (left0 left1 : List ℕ) (desk desk1 : K) (report0 report1 : Option (List ℕ)) (taken : Option (List ℕ)) (e : Event) (answer : List ℕ) (outcome : Option SideStatus)
+  pub heard : {A : Type 0} (IsOf : A → Turn → Type 0) (told : A) (audit0 audit1 : Audit) (left0 left1 : List ℕ) (desk desk1 : K) (report0 report1 : Option (List ℕ)) (v0 v1 : SideVerdict) (taken : Option (List ℕ)) (e : Event) (answer : List ℕ) (outcome : Option SideStatus)
       → keeps audit1 ≡ keeps audit0 → IsLineOf e line → k.Passes desk line → ((turn : Turn) → IsOf told turn → k.Sees desk e turn desk1)
       → TakesLine IsOf told e answer audit0 audit1 left0 left1 → Consumes report0 report1 (ended answer)
       → IfNone outcome (e ≢ ev.End) → IfSome outcome (λ s. (s ≡ Run status.Done) × (e ≡ ev.End))
-      → End outcome (audit_world audit0 left0 desk report0) (audit_world audit1 left1 desk1 report1) taken taken
-  heard IsOf told audit0 audit1 left0 left1 desk desk1 report0 report1 taken e answer outcome kept is passes sees_it takes read goes end = LineEnd.did (record {
+      → End outcome (audit_world audit0 left0 desk report0 v0) (audit_world audit1 left1 desk1 report1 v1) taken taken
+  heard IsOf told audit0 audit1 left0 left1 desk desk1 report0 report1 v0 v1 taken e answer outcome kept is passes sees_it takes read goes end = LineEnd.did (record {
     trace_step = Heard line e answer;
     line_is = refl;
     is = is;
     did = record {
       kept = kept;
-      report = (report1, read, refl);
+      took = (audit_world audit1 left1 desk1 report1 v1, read, refl);
       may = λ τ H texts history sees.
           let w = takes τ H texts history sees in
           let d = w.0 in

@@ -25,9 +25,9 @@ use Rattle.trace_runs.specs.declared.verdict.Ending.{Ending}
 use Rattle.trace_runs.specs.declared.verdict.Ending.TheVariants as ends
 use Rattle.trace_extensions.specs.Places.{Place, place, MayStep}
 use Rattle.trace_extensions.specs.Sides.{MayHaveDone, MayHaveRun}
-use Rattle.trace_extensions.specs.Steps.{AuditStep, Heard, Own, Passed, audit_lines, AuditIsEnd, AuditGoesOn, AuditEnds}
+use Rattle.trace_extensions.specs.Steps.{AuditWorld, AuditStep, Heard, Own, Passed, audit_lines, AuditIsEnd, AuditGoesOn, AuditEnds}
 use Rattle.trace_extensions.specs.Steps as audit
-use Rattle.trace_extensions.specs.Worlds.{AuditWorld, AuditLeaves, IsSeenAt, DidAudit}
+use Rattle.trace_extensions.specs.Worlds.{AuditLeaves, IsSeenAt, DidAudit}
 use Rattle.trace_extensions.proofs.Translated.{IsStepOf, AreStepsOf, NoneEnds, DoneTwice, done_twice, same_length, same_script, same_report, texts_of, read_step, all_read, all_go_on, going, took}
 
 -- the run came to the end of its script
@@ -43,7 +43,7 @@ IsWhole status.Memory = ⊥
 module _ {K T : Type 0} (k : Ghosts K T) where
   -- == the last line ==
 
-  last_one : (a : AuditStep k.Own) (ys : List (SideStep k.Own)) → AreStepsOf k (a ∷ []) ys → (b : SideStep k.Own) × (ys ≡ b ∷ []) × IsStepOf k a b
+  last_one : (a : AuditStep k.Own K) (ys : List (SideStep k.Own)) → AreStepsOf k (a ∷ []) ys → (b : SideStep k.Own) × (ys ≡ b ∷ []) × IsStepOf k a b
   last_one a [] are = absurd are
   last_one a (b ∷ []) are = (b, refl, are.0)
   last_one a (b ∷ (c ∷ ys)) are = absurd are.1
@@ -58,10 +58,10 @@ module _ {K T : Type 0} (k : Ghosts K T) where
   no_text : (ys : List (SideStep k.Own)) → ys ≡ [] → report_of (side_lines k) ys ≡ []
   no_text ys is = ap (λ (l : List (SideStep k.Own)). report_of (side_lines k) l) is
 
-  did_last : (bytes : List ℕ) (end : Type 0) (done : List (AuditStep k.Own)) (ys : List (SideStep k.Own)) → AreStepsOf k done ys → (did : DidLast (audit_lines k) bytes end done) → AuditIsEnd did.last
+  did_last : (bytes : List ℕ) (end : Type 0) (done : List (AuditStep k.Own K)) (ys : List (SideStep k.Own)) → AreStepsOf k done ys → (did : DidLast (audit_lines k) bytes end done) → AuditIsEnd did.last
       → (is : DidLast (side_lines k) bytes end ys) × (side_lines k).IsEnd is.last × (report_of (side_lines k) ys ≡ side_text is.last)
   did_last bytes end done ys are did is_end =
-      let one = last_one did.last ys (subst (λ (l : List (AuditStep k.Own)). AreStepsOf k l ys) did.only are) in (
+      let one = last_one did.last ys (subst (λ (l : List (AuditStep k.Own K)). AreStepsOf k l ys) did.only are) in (
         record {
           last = one.0;
           is_ended = did.is_ended;
@@ -73,10 +73,10 @@ module _ {K T : Type 0} (k : Ghosts K T) where
         one_text one.0 ys one.1,
       )
 
-  ran_out : (bytes : List ℕ) (end : Type 0) (text : List ℕ) (done : List (AuditStep k.Own)) (ys : List (SideStep k.Own)) → AreStepsOf k done ys → RanOut (audit_lines k) bytes end text done
+  ran_out : (bytes : List ℕ) (end : Type 0) (text : List ℕ) (done : List (AuditStep k.Own K)) (ys : List (SideStep k.Own)) → AreStepsOf k done ys → RanOut (audit_lines k) bytes end text done
       → RanOut (side_lines k) bytes end (report_of (side_lines k) ys) ys
   ran_out bytes end text done ys are out =
-      let one = last_one out.last ys (subst (λ (l : List (AuditStep k.Own)). AreStepsOf k l ys) out.only are) in
+      let one = last_one out.last ys (subst (λ (l : List (AuditStep k.Own K)). AreStepsOf k l ys) out.only are) in
       record {
         last = one.0;
         only = one.1;
@@ -86,10 +86,10 @@ module _ {K T : Type 0} (k : Ghosts K T) where
         told = one_text one.0 ys one.1;
       }
 
-  none_done : (done : List (AuditStep k.Own)) (ys : List (SideStep k.Own)) → AreStepsOf k done ys → done ≡ [] → ys ≡ []
-  none_done done ys are none = no_steps ys (subst (λ (l : List (AuditStep k.Own)). AreStepsOf k l ys) none are)
+  none_done : (done : List (AuditStep k.Own K)) (ys : List (SideStep k.Own)) → AreStepsOf k done ys → done ≡ [] → ys ≡ []
+  none_done done ys are none = no_steps ys (subst (λ (l : List (AuditStep k.Own K)). AreStepsOf k l ys) none are)
 
-  ends_in : (s : Status) → IsWhole s → (number : ℕ) (bytes : List ℕ) (end : Type 0) (text : List ℕ) (done : List (AuditStep k.Own)) (ys : List (SideStep k.Own)) → AreStepsOf k done ys
+  ends_in : (s : Status) → IsWhole s → (number : ℕ) (bytes : List ℕ) (end : Type 0) (text : List ℕ) (done : List (AuditStep k.Own K)) (ys : List (SideStep k.Own)) → AreStepsOf k done ys
       → EndsIn (audit_lines k) (Run s) number bytes end text done → EndsIn (side_lines k) (Run s) number bytes end (report_of (side_lines k) ys) ys
   ends_in status.Done whole number bytes end text done ys are (did, is_end, told) = did_last bytes end done ys are did is_end
   ends_in (status.Script line) whole number bytes end text done ys are (few, inl (is, none, told, bad)) =
@@ -106,25 +106,27 @@ module _ {K T : Type 0} (k : Ghosts K T) where
   ends_in status.Memory whole number bytes end text done ys are is = absurd whole
 
   -- the audit didn't end in the last line
-  end_goes : (a : AuditStep k.Own) → AuditIsEnd a → AuditEnds a → ⊥
+  end_goes : (a : AuditStep k.Own K) → AuditIsEnd a → AuditEnds a → ⊥
   end_goes (Passed line) end ends = ends
   end_goes (Heard line e answer) end ends = ends
   end_goes (Own line own texts) end ends = ends
-  end_goes (audit.Ended line) end ends = end
+  end_goes (audit.Begun line told left) end ends = end
+  end_goes (audit.Ended line left) end ends = end
 
-  on_goes : (a : AuditStep k.Own) → AuditGoesOn a → AuditEnds a → ⊥
+  on_goes : (a : AuditStep k.Own K) → AuditGoesOn a → AuditEnds a → ⊥
   on_goes (Passed line) goes ends = ends
   on_goes (Heard line e answer) goes ends = ends
   on_goes (Own line own texts) goes ends = ends
-  on_goes (audit.Ended line) goes ends = goes
+  on_goes (audit.Begun line told left) goes ends = goes
+  on_goes (audit.Ended line left) goes ends = goes
 
-  one_goes : (a : AuditStep k.Own) (done : List (AuditStep k.Own)) → done ≡ a ∷ [] → (AuditEnds a → ⊥) → NoneEnds k done
-  one_goes a done is never = subst (λ (l : List (AuditStep k.Own)). NoneEnds k l) (sym is) (never, tt)
+  one_goes : (a : AuditStep k.Own K) (done : List (AuditStep k.Own K)) → done ≡ a ∷ [] → (AuditEnds a → ⊥) → NoneEnds k done
+  one_goes a done is never = subst (λ (l : List (AuditStep k.Own K)). NoneEnds k l) (sym is) (never, tt)
 
-  none_goes : (done : List (AuditStep k.Own)) → done ≡ [] → NoneEnds k done
-  none_goes done is = subst (λ (l : List (AuditStep k.Own)). NoneEnds k l) (sym is) tt
+  none_goes : (done : List (AuditStep k.Own K)) → done ≡ [] → NoneEnds k done
+  none_goes done is = subst (λ (l : List (AuditStep k.Own K)). NoneEnds k l) (sym is) tt
 
-  last_goes : (s : Status) → IsWhole s → (number : ℕ) (bytes : List ℕ) (end : Type 0) (text : List ℕ) (done : List (AuditStep k.Own)) → EndsIn (audit_lines k) (Run s) number bytes end text done
+  last_goes : (s : Status) → IsWhole s → (number : ℕ) (bytes : List ℕ) (end : Type 0) (text : List ℕ) (done : List (AuditStep k.Own K)) → EndsIn (audit_lines k) (Run s) number bytes end text done
       → NoneEnds k done
   last_goes status.Done whole number bytes end text done (did, is_end, told) = one_goes did.last done did.only (end_goes did.last is_end)
   last_goes (status.Script line) whole number bytes end text done (few, inl (is, none, told, bad)) = none_goes done none
@@ -136,11 +138,11 @@ module _ {K T : Type 0} (k : Ghosts K T) where
   last_goes status.WriteFault whole number bytes end text done is = absurd whole
   last_goes status.Memory whole number bytes end text done is = absurd whole
 
-  both_go : (xs ys : List (AuditStep k.Own)) → NoneEnds k xs → NoneEnds k ys → NoneEnds k (xs ++ ys)
+  both_go : (xs ys : List (AuditStep k.Own K)) → NoneEnds k xs → NoneEnds k ys → NoneEnds k (xs ++ ys)
   both_go [] ys one two = two
   both_go (a ∷ xs) ys one two = (one.0, both_go xs ys one.1 two)
 
-  texts_both : (xs ys : List (AuditStep k.Own)) → texts_of k (xs ++ ys) ≡ texts_of k xs ++ texts_of k ys
+  texts_both : (xs ys : List (AuditStep k.Own K)) → texts_of k (xs ++ ys) ≡ texts_of k xs ++ texts_of k ys
   texts_both [] ys = refl
   texts_both (a ∷ xs) ys = ap (λ (l : List ℕ). audit.audit_text a ++ l) (texts_both xs ys) ∙ sym (append_assoc (audit.audit_text a) (texts_of k xs) (texts_of k ys))
 
@@ -160,12 +162,12 @@ module _ {K T : Type 0} (k : Ghosts K T) where
 
     pub read_report : Consumes w0.report w1.report report
     read_report = subst (λ (w : AuditWorld K). Consumes w0.report w.report report) (sym r.did.leaves)
-        (took k w0.report r.did.behind.report (r.trace ++ r.done) (both_go r.trace r.done none_ends none_last) r.did.did.report)
+        (took k w0 r.did.behind (r.trace ++ r.done) (both_go r.trace r.done none_ends none_last) r.did.did.took)
 
     pub may_have_done : (τ : Tariff) (H : Ledger) → IsOfTexts τ → History τ editions H → Sees w0.audit H
         → Replayed (side_lines k) (Run s) (MayHaveDone k τ H w0.rates w0.desk w1.desk w1.audit) left0 left1 (Some []) (Some report)
     may_have_done τ H texts history sees =
-        let w = done_twice k τ (IsSeenAt τ r.did.behind) r.trace r.done none_ends none_last (world (place H w0.rates) w0.desk) (r.did.did.may τ H texts history sees) in
+        let w = done_twice k τ (IsSeenAt τ r.did.behind.audit r.did.behind.rates r.did.behind.desk) r.trace r.done none_ends none_last (world (place H w0.rates) w0.desk) (r.did.did.may τ H texts history sees) in
         let long = same_length k r.trace w.first w.are_first in
         record {
           trace = w.first;
@@ -184,7 +186,7 @@ module _ {K T : Type 0} (k : Ghosts K T) where
           did = done_so w;
         }
       where
-        done_so : (w : DoneTwice k τ (IsSeenAt τ r.did.behind) (world (place H w0.rates) w0.desk) r.trace r.done) → MayHaveDone k τ H w0.rates w0.desk w1.desk w1.audit (w.first ++ w.last)
+        done_so : (w : DoneTwice k τ (IsSeenAt τ r.did.behind.audit r.did.behind.rates r.did.behind.desk) (world (place H w0.rates) w0.desk) r.trace r.done) → MayHaveDone k τ H w0.rates w0.desk w1.desk w1.audit (w.first ++ w.last)
         done_so w = record {
           behind = w.new.scene;
           does = subst (λ (x : World Place K). Does k (MayStep τ) (world (place H w0.rates) w0.desk) x (w.first ++ w.last))

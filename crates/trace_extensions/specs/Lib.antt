@@ -1,7 +1,9 @@
 -- Promised: public contracts name these.
+pub mod Kept
 pub mod Places
 pub mod Rates
 pub mod Sides
+pub mod Stops
 pub mod Takes
 -- Private calls and proofs alone name these.
 pub mod AuditLaws

@@ -1,5 +1,6 @@
 -- What an auditor takes: at each history that it sees, something may have been done, and it then sees what that leaves.
-use Rattle.std.specs.Prelude.{◌≡◌, ℕ, List, length, drop}
+use Rattle.std.specs.Prelude.{◌≡◌, ℕ, List, length, drop, Option}
+use Rattle.std.specs.Io.KnownBytes.{Consumes, IsAtEnd}
 use Rattle.bench_base.specs.declared.{events.Event.Event, events.Reply.Reply}
 use Rattle.bench_base.specs.Ledger.{Ledger}
 use Rattle.bench_base.specs.Rules.{editions}
@@ -11,6 +12,7 @@ use Rattle.line_extensions.specs.Trace.{StepRecord}
 use Rattle.script_replay.specs.Trace.{ledger_by}
 use Rattle.trace_bench.specs.Prefixes.{IsDue}
 use Rattle.trace_bench.specs.Seeing.{Audit, Sees}
+use Rattle.trace_bench.specs.Stopping.{IsBegun}
 use Rattle.trace_runs.specs.Audits.{MayTell}
 use Rattle.node_turns.specs.declared.turn.Turn.{Turn}
 use Rattle.trace_extensions.specs.Places.{turn_at}
@@ -35,3 +37,11 @@ TakesLine IsOf told e line old new left0 left1 =
 -- this answer is due to the event, and the auditor sees what it saw
 abbrev pub IsDueAt : Event → Reply → List ℕ → Audit → Audit → Type 0
 IsDueAt e due left old new = AtEachSeen old (λ τ H. Unforged e H × IsDue τ H e left due × Sees new H)
+
+-- the event may get a reply with a line that begins so, and the auditor sees what may then be left
+abbrev pub IsBegunAt : Event → List ℕ → List ℕ → Audit → Audit → Type 0
+IsBegunAt e told left old new = AtEachSeen old (λ τ H. Unforged e H × IsBegun τ H e left told new)
+
+-- the report ends with bytes that may begin the line of the answer to the event
+abbrev pub EndsWithin : Event → List ℕ → Audit → Audit → Option (List ℕ) → Option (List ℕ) → Type 0
+EndsWithin e left old new report0 report1 = (told : List ℕ) × IsBegunAt e told left old new × Consumes report0 report1 told × IsAtEnd report1

@@ -1,5 +1,5 @@
 //! The steps that an extension asks for, taken from what the report has for its line.
-ghost use Rattle.std.specs.Prelude.{◌≡◌, ◌+◌, ◌<◌, ◌≤◌, length, None, IfOk};
+ghost use Rattle.std.specs.Prelude.{◌≡◌, ◌+◌, ◌<◌, ◌≤◌, length, IfOk, IfSome};
 ghost use Rattle.bench_base.specs.Events.{IsWholeEvent};
 ghost use Rattle.bench.specs.declared.benches.TheConstants.{MOST_MESSAGES};
 ghost use Rattle.line_extensions.specs.Desks.{world};
@@ -8,7 +8,7 @@ ghost use Rattle.trace_bench.specs.Seeing.{IsReady, audit_of, keeps};
 ghost use Rattle.trace_extensions.specs.Places.{place};
 ghost use Rattle.trace_extensions.specs.Rates.{left_of};
 ghost use Rattle.trace_extensions.specs.Takes.{AtEachSeen};
-ghost use Rattle.trace_extensions.specs.Worlds.{AskedSo, AskedOne, audit_world};
+ghost use Rattle.trace_extensions.specs.Worlds.{AskedSo, AskedOne};
 
 use crate::extension::TracedExtension;
 use crate::rates::RatesLeft;
@@ -40,7 +40,7 @@ fn ask_one<D: TracedExtension>(
     ensures may { IfOk result (λ next. MayAsk next (D.left desk.new)) }
     ensures fewer { IfOk result (λ next. IsStep next → D.left desk.new < D.left desk.old) }
     ensures asked { IfOk result (λ next. AtEachSeen (audit_of auditor.old) (λ τ H. AskedOne ⟦<D as Extension>⟧ τ event.now
-        (world (place H (left_of rates.old)) desk.old) (audit_world (audit_of auditor.new) (left_of rates.new) desk.new None) next)) }
+        (world (place H (left_of rates.old)) desk.old) (audit_of auditor.new) (left_of rates.new) desk.new next)) }
 {
     let due = match due_reply(alloc, auditor, rates, event) {
         Ok(due) => due,
@@ -78,7 +78,7 @@ pub(crate) fn ask_all<D: TracedExtension>(
     ensures kept { keeps (audit_of auditor.new) ≡ keeps (audit_of auditor.old) }
     ensures last { IfOk result (λ next. IsStep next → ⊥) }
     ensures asked { IfOk result (λ next. AtEachSeen (audit_of auditor.old) (λ τ H. AskedSo ⟦<D as Extension>⟧ τ
-        (world (place H (left_of rates.old)) desk.old) (audit_world (audit_of auditor.new) (left_of rates.new) desk.new None) first next)) }
+        (world (place H (left_of rates.old)) desk.old) (audit_of auditor.new) (left_of rates.new) desk.new first next)) }
 {
     let sent = auditor.message_count();
     let mut next = first;
@@ -97,4 +97,44 @@ pub(crate) fn ask_all<D: TracedExtension>(
         }
     }
     Ok(next)
+}
+
+// Takes so many steps that the extension asks for, one after the other, each with the reply that is due: what it asks for after them. None if it asks for
+// fewer.
+pub(crate) fn ask_some<D: TracedExtension>(
+    alloc: Global,
+    auditor: &mut Auditor,
+    rates: &mut RatesLeft,
+    desk: &mut D,
+    first: Next,
+    count: u32,
+    transcript: &mut Transcript,
+) -> Result<Option<Next>, Miss>
+    requires may { MayAsk first (D.left desk.old) }
+    requires ready { IsReady (audit_of auditor.old) }
+    requires few { length (audit_of auditor.old).messages < MOST_MESSAGES }
+    ensures ready { IsReady (audit_of auditor.new) }
+    ensures few { length (audit_of auditor.new).messages ≤ length (audit_of auditor.old).messages + 1 }
+    ensures kept { keeps (audit_of auditor.new) ≡ keeps (audit_of auditor.old) }
+    ensures may { IfOk result (λ o. IfSome o (λ next. MayAsk next (D.left desk.new))) }
+    ensures asked { IfOk result (λ o. IfSome o (λ next. AtEachSeen (audit_of auditor.old) (λ τ H. AskedSo ⟦<D as Extension>⟧ τ
+        (world (place H (left_of rates.old)) desk.old) (audit_of auditor.new) (left_of rates.new) desk.new first next))) }
+{
+    let sent = auditor.message_count();
+    let mut next = first;
+    for number in 0..count {
+        let Next::Step(event) = next else {
+            return Ok(None);
+        };
+        // Only the last step of a line may send a message.
+        if sent != auditor.message_count() {
+            return Err(Miss::Memory);
+        }
+        let step = number + 1;
+        match ask_one(alloc, auditor, rates, desk, step, &event, &[], transcript) {
+            Ok(more) => next = more,
+            Err(miss) => return Err(miss),
+        }
+    }
+    Ok(Some(next))
 }

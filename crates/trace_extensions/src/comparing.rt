@@ -1,6 +1,8 @@
 //! The answer of an extension beside the lines of the report.
-ghost use Rattle.std.specs.Prelude.{◌≡◌, ◌++◌, ◌≤◌, ℕ, List, true, flat_map, length, take};
-ghost use Rattle.std.specs.Io.KnownBytes.{Consumes};
+ghost use Rattle.std.specs.Prelude.{◌≡◌, ◌≢◌, ◌++◌, ◌≤◌, ℕ, List, true, false, flat_map, length, take};
+ghost use Rattle.std.specs.Io.KnownBytes.{Consumes, IsAtEnd};
+ghost use Rattle.trace_bench.specs.Stopping.{IsPrefixOf};
+ghost use Rattle.trace_extensions.specs.declared.papers.SideVerdict.{SideVerdict as Verdict};
 ghost use Rattle.line_runs.specs.Lines.{ended};
 
 use crate::papers::{Papers, SideVerdict};
@@ -8,6 +10,7 @@ use bench_base::stream::Source;
 use line_extensions::Extension;
 use line_runs::lines::{LineRead, read_line};
 use script_text::Line;
+use std::alloc::Global;
 use text_streams::ReadAhead;
 use trace_runs::Input;
 
@@ -25,6 +28,9 @@ enum Compared {
 fn compare_next<R: Source>(papers: &mut Papers<R>, text: &[u8]) -> Compared
     ensures same { result ≡ Compared.Same → Consumes (⟦<ReadAhead<R> as Source>⟧.left papers.old.report)
         (⟦<ReadAhead<R> as Source>⟧.left papers.new.report) (ended text.now) }
+    ensures open { result ≡ Compared.Open → (part : List ℕ) × IsPrefixOf part text.now
+        × Consumes (⟦<ReadAhead<R> as Source>⟧.left papers.old.report) (⟦<ReadAhead<R> as Source>⟧.left papers.new.report) part
+        × IsAtEnd (⟦<ReadAhead<R> as Source>⟧.left papers.new.report) }
 {
     let mut buf = [0; 600];
     match read_line(&mut papers.report, &mut buf) {
@@ -52,6 +58,8 @@ fn compare_next<R: Source>(papers: &mut Papers<R>, text: &[u8]) -> Compared
 // Ends the audit if a line of the report is not the text that is due: whether it is.
 fn is_same<R: Source>(number: u32, papers: &mut Papers<R>, text: Line, compared: Compared) -> bool
     ensures same { result ≡ true → compared ≡ Compared.Same }
+    ensures open { result ≡ false → (n : ℕ) → papers.new.verdict ≡ Verdict.Stopped n → compared ≡ Compared.Open }
+    ensures in_own { result ≡ false → (n : ℕ) → papers.new.verdict ≢ Verdict.StoppedInOwn n }
     ensures report { papers.new.report ≡ papers.old.report }
 {
     match compared {
@@ -72,6 +80,11 @@ fn rest_fits<D: Extension, R: Source>(number: u32, desk: &D, papers: &mut Papers
     requires some { 1 ≤ length (D.texts desk.now) }
     ensures fits { result ≡ true → (rest : List ℕ) × (flat_map ended (D.texts desk.now) ≡ flat_map ended (take 1 (D.texts desk.now)) ++ rest)
         × Consumes (⟦<ReadAhead<R> as Source>⟧.left papers.old.report) (⟦<ReadAhead<R> as Source>⟧.left papers.new.report) rest }
+    ensures open { result ≡ false → (n : ℕ) → papers.new.verdict ≡ Verdict.Stopped n → (rest : List ℕ)
+        × IsPrefixOf (flat_map ended (take 1 (D.texts desk.now)) ++ rest) (flat_map ended (D.texts desk.now))
+        × Consumes (⟦<ReadAhead<R> as Source>⟧.left papers.old.report) (⟦<ReadAhead<R> as Source>⟧.left papers.new.report) rest
+        × IsAtEnd (⟦<ReadAhead<R> as Source>⟧.left papers.new.report) }
+    ensures in_own { result ≡ false → (n : ℕ) → papers.new.verdict ≢ Verdict.StoppedInOwn n }
 {
     for at in 1..desk.count() {
         let mut text = Line::new();
@@ -93,6 +106,11 @@ pub(crate) fn answer_fits<D: Extension, R: Source>(
 ) -> bool
     ensures fits { result ≡ true → (rest : List ℕ) × (flat_map ended (D.texts desk.now) ≡ ended first.now ++ rest)
         × Consumes (⟦<ReadAhead<R> as Source>⟧.left papers.old.report) (⟦<ReadAhead<R> as Source>⟧.left papers.new.report) rest }
+    ensures open { result ≡ false → (n : ℕ) → papers.new.verdict ≡ Verdict.Stopped n → (rest : List ℕ)
+        × IsPrefixOf (ended first.now ++ rest) (flat_map ended (D.texts desk.now))
+        × Consumes (⟦<ReadAhead<R> as Source>⟧.left papers.old.report) (⟦<ReadAhead<R> as Source>⟧.left papers.new.report) rest
+        × IsAtEnd (⟦<ReadAhead<R> as Source>⟧.left papers.new.report) }
+    ensures in_own { result ≡ false → (n : ℕ) → papers.new.verdict ≢ Verdict.StoppedInOwn n }
 {
     if desk.count() == 0 {
         papers.end(SideVerdict::Wrong(number));
@@ -108,14 +126,21 @@ pub(crate) fn answer_fits<D: Extension, R: Source>(
     rest_fits(number, desk, papers)
 }
 
-// Ends the audit at an own line of this number, where the report ends with this prefix of its answer, and nothing is in doubt: all was done.
+// Ends the audit at an own line of this number, of which all was done, if its answer begins with this prefix, with which the report ends: with this
+// verdict.
 pub(crate) fn answer_begins<D: Extension, R: Source>(
+    alloc: Global,
     number: u32,
     desk: &D,
     prefix: &[u8],
+    verdict: SideVerdict,
     papers: &mut Papers<R>,
 )
     ensures report { papers.new.report ≡ papers.old.report }
+    ensures stopped { (n : ℕ) → papers.new.verdict ≡ Verdict.Stopped n
+        → (verdict ≡ Verdict.Stopped n) × IsPrefixOf prefix.now (flat_map ended (D.texts desk.now)) }
+    ensures in_own { (n : ℕ) → papers.new.verdict ≡ Verdict.StoppedInOwn n
+        → (verdict ≡ Verdict.StoppedInOwn n) × IsPrefixOf prefix.now (flat_map ended (D.texts desk.now)) }
 {
     if desk.count() == 0 {
         return papers.end(SideVerdict::Wrong(number));
@@ -123,7 +148,8 @@ pub(crate) fn answer_begins<D: Extension, R: Source>(
     let mut text = Line::new();
     desk.put(0, &mut text);
     if text.as_slice().starts_with(prefix) {
-        papers.end(SideVerdict::Stopped(number));
+        papers.transcript.answered(alloc, desk);
+        papers.end(verdict);
     } else {
         papers.due = text;
         papers.end(SideVerdict::Wrong(number));

@@ -1,27 +1,27 @@
 //! The lines of a script beside those of its report: events of the bench, or an extension's own.
-ghost use Rattle.std.specs.Prelude.{◌≡◌, ◌+◌, ◌++◌, ◌<◌, ◌≤◌, ℕ, List, true, length, flat_map, None};
-ghost use Rattle.std.specs.Io.KnownBytes.{Consumes};
+ghost use Rattle.std.specs.Prelude.{◌≡◌, ◌≢◌, ◌+◌, ◌++◌, ◌<◌, ◌≤◌, ℕ, List, true, false, length, flat_map};
+ghost use Rattle.std.specs.Io.KnownBytes.{Consumes, IsAtEnd};
 ghost use Rattle.bench.specs.declared.benches.TheConstants.{MOST_MESSAGES};
 ghost use Rattle.line_extensions.specs.Desks.{world};
 ghost use Rattle.line_extensions.specs.declared.extension.Next.{Next as TheNext};
 ghost use Rattle.line_runs.specs.Lines.{ended};
 ghost use Rattle.trace_extensions.specs.Places.{place};
 ghost use Rattle.trace_extensions.specs.Takes.{AtEachSeen};
-ghost use Rattle.bench_base.specs.Events.{IsWholeEvent};
 ghost use Rattle.trace_bench.specs.Seeing.{IsReady, audit_of, keeps};
 ghost use Rattle.trace_extensions.specs.Rates.{left_of};
-ghost use Rattle.trace_extensions.specs.Steps.{AuditStep, audit_lines};
-ghost use Rattle.trace_extensions.specs.Worlds.{AuditWorld, audit_world, AskedSo, AuditLeaves, DidAudit};
+ghost use Rattle.trace_extensions.specs.Steps.{AuditWorld, audit_world, AuditStep, audit_lines};
+ghost use Rattle.trace_extensions.specs.Worlds.{AskedSo, AuditLeaves, DidAudit, EndsInOwn, ReadsInOwn};
+ghost use Rattle.trace_extensions.specs.declared.papers.SideVerdict.{SideVerdict as Verdict};
 ghost use Rattle.trace_extensions.specs.AuditLaws.{audit_done, audit_fits};
 ghost use Rattle.line_extensions.specs.Wants.{MayAsk};
-ghost use Rattle.line_runs.specs.Turns.{LineEnd};
 
 use crate::asking::ask_all;
-use crate::comparing::{answer_begins, answer_fits};
+use crate::comparing::answer_fits;
 use crate::extension::TracedExtension;
 use crate::papers::{Papers, SideVerdict};
 use crate::plain::{answer, miss};
 use crate::rates::RatesLeft;
+use crate::stopping::{own_begun, own_unbegun};
 use bench_base::events::Event;
 use bench_base::stream::{Sink, Source};
 use line_extensions::{Extension, Next, ended_by};
@@ -58,9 +58,15 @@ fn own_fits<R: Source, D: TracedExtension>(
     ensures few { length (audit_of auditor.new).messages ≤ length (audit_of auditor.old).messages + 1 }
     ensures kept { keeps (audit_of auditor.new) ≡ keeps (audit_of auditor.old) }
     ensures asked { result ≡ true → AtEachSeen (audit_of auditor.old) (λ τ H. AskedSo ⟦<D as Extension>⟧ τ
-        (world (place H (left_of rates.old)) desk.old) (audit_world (audit_of auditor.new) (left_of rates.new) desk.new None) first TheNext.Say) }
+        (world (place H (left_of rates.old)) desk.old) (audit_of auditor.new) (left_of rates.new) desk.new first TheNext.Say) }
     ensures fits { result ≡ true → (rest : List ℕ) × (flat_map ended (D.texts desk.new) ≡ ended answer.now ++ rest)
         × Consumes (⟦<ReadAhead<R> as Source>⟧.left papers.old.report) (⟦<ReadAhead<R> as Source>⟧.left papers.new.report) rest }
+    ensures stopped { result ≡ false → (n : ℕ) → papers.new.verdict ≡ Verdict.Stopped n → (rest : List ℕ)
+        × Consumes (⟦<ReadAhead<R> as Source>⟧.left papers.old.report) (⟦<ReadAhead<R> as Source>⟧.left papers.new.report) rest
+        × IsAtEnd (⟦<ReadAhead<R> as Source>⟧.left papers.new.report)
+        × EndsInOwn ⟦<D as Extension>⟧ (audit_of auditor.old) (left_of rates.old) desk.old first (ended answer.now ++ rest)
+        (audit_of auditor.new) desk.new }
+    ensures in_own { result ≡ false → (n : ℕ) → papers.new.verdict ≢ Verdict.StoppedInOwn n }
 {
     match ask_all(
         alloc,
@@ -75,47 +81,17 @@ fn own_fits<R: Source, D: TracedExtension>(
             miss(papers, number, why);
             false
         }
-        Ok(Next::Say) => answer_fits(number, desk, answer, papers),
+        Ok(Next::Say) => {
+            let fits = answer_fits(number, desk, answer, papers);
+            if fits || matches!(papers.verdict, SideVerdict::Stopped(_)) {
+                papers.transcript.answered(alloc, desk);
+            }
+            fits
+        }
         Ok(Next::Stop | Next::Step(_)) => {
             papers.end(SideVerdict::Memory);
             false
         }
-    }
-}
-
-// Ends the audit at an own line of this number, where the report ends with this prefix of its answer.
-fn own_begun<R: Source, D: TracedExtension>(
-    alloc: Global,
-    number: u32,
-    first: Next,
-    prefix: &[u8],
-    desk: &mut D,
-    auditor: &mut Auditor,
-    rates: &mut RatesLeft,
-    papers: &mut Papers<R>,
-)
-    requires may { MayAsk first (D.left desk.old) }
-    requires ready { IsReady (audit_of auditor.old) }
-    requires few { length (audit_of auditor.old).messages < MOST_MESSAGES }
-    ensures ready { IsReady (audit_of auditor.new) }
-    ensures few { length (audit_of auditor.new).messages ≤ length (audit_of auditor.old).messages + 1 }
-    ensures kept { keeps (audit_of auditor.new) ≡ keeps (audit_of auditor.old) }
-{
-    if D::is_in_doubt(&first, prefix) {
-        return papers.end(SideVerdict::StoppedInOwn(number));
-    }
-    match ask_all(
-        alloc,
-        auditor,
-        rates,
-        desk,
-        first,
-        prefix,
-        &mut papers.transcript,
-    ) {
-        Err(why) => miss(papers, number, why),
-        Ok(Next::Say) => answer_begins(number, desk, prefix, papers),
-        Ok(Next::Stop | Next::Step(_)) => papers.end(SideVerdict::Memory),
     }
 }
 
@@ -136,9 +112,15 @@ fn own_line<R: Source, D: TracedExtension>(
     ensures few { length (audit_of auditor.new).messages ≤ length (audit_of auditor.old).messages + 1 }
     ensures kept { keeps (audit_of auditor.new) ≡ keeps (audit_of auditor.old) }
     ensures asked { result ≡ true → AtEachSeen (audit_of auditor.old) (λ τ H. AskedSo ⟦<D as Extension>⟧ τ
-        (world (place H (left_of rates.old)) desk.old) (audit_world (audit_of auditor.new) (left_of rates.new) desk.new None) first TheNext.Say) }
+        (world (place H (left_of rates.old)) desk.old) (audit_of auditor.new) (left_of rates.new) desk.new first TheNext.Say) }
     ensures fits { result ≡ true → Consumes (⟦<ReadAhead<R> as Source>⟧.left papers.old.report) (⟦<ReadAhead<R> as Source>⟧.left papers.new.report)
         (flat_map ended (D.texts desk.new)) }
+    ensures stopped { result ≡ false → (n : ℕ) → papers.new.verdict ≡ Verdict.Stopped n → ReadsInOwn ⟦<D as Extension>⟧ (audit_of auditor.old)
+        (left_of rates.old) desk.old first (⟦<ReadAhead<R> as Source>⟧.left papers.old.report) (audit_of auditor.new) desk.new
+        (⟦<ReadAhead<R> as Source>⟧.left papers.new.report) }
+    ensures in_own { result ≡ false → (n : ℕ) → papers.new.verdict ≡ Verdict.StoppedInOwn n → ReadsInOwn ⟦<D as Extension>⟧ (audit_of auditor.old)
+        (left_of rates.old) desk.old first (⟦<ReadAhead<R> as Source>⟧.left papers.old.report) (audit_of auditor.new) desk.new
+        (⟦<ReadAhead<R> as Source>⟧.left papers.new.report) }
 {
     let mut buf = [0; 600];
     match read_line(&mut papers.report, &mut buf) {
@@ -183,13 +165,14 @@ impl<R: Source, D: TracedExtension> LineHandler for AtReport<R, D> {
 
     ghost World = { AuditWorld D };
 
-    ghost world = { λ desk auditor rates papers. audit_world (audit_of auditor) (left_of rates) desk (⟦<ReadAhead<R> as Source>⟧.left papers.report) };
+    ghost world = { λ desk auditor rates papers. audit_world (audit_of auditor) (left_of rates) desk (⟦<ReadAhead<R> as Source>⟧.left papers.report)
+        papers.verdict };
 
     ghost IsReady = { λ w. IsReady w.audit };
 
     ghost used = { λ w. length w.audit.messages };
 
-    ghost TraceStep = { AuditStep D.Own };
+    ghost TraceStep = { AuditStep D.Own D };
 
     ghost lines = { audit_lines ⟦<D as Extension>⟧ };
 
@@ -212,9 +195,14 @@ impl<R: Source, D: TracedExtension> LineHandler for AtReport<R, D> {
         _report: &mut K,
     ) -> Option<SideStatus> {
         papers.line = number;
-        papers.transcript.begin(number);
+        papers.transcript.begin(number, line);
         if is_skipped(line) {
             return None;
+        }
+        if papers.is_unbegun(number) {
+            own_unbegun(number, papers);
+            papers.is_own_stop = true;
+            return Some(SideStatus::Stopped);
         }
         let begun = desk.begin(alloc, line);
         match begun {
@@ -226,6 +214,7 @@ impl<R: Source, D: TracedExtension> LineHandler for AtReport<R, D> {
                 if own_line(alloc, number, first, desk, auditor, rates, papers) {
                     None
                 } else {
+                    papers.is_own_stop = true;
                     Some(SideStatus::Stopped)
                 }
             }

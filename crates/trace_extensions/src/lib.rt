@@ -9,17 +9,23 @@ mod papers;
 mod plain;
 mod rates;
 mod run;
-mod said;
+mod stopping;
+mod stored;
 mod taking;
 mod transcript;
 mod words;
 
 pub use extension::TracedExtension;
-pub use papers::{Papers, SideVerdict};
+pub use host_departments::{DEPARTMENT_BYTES, DEPARTMENTS, DepartmentRow, JOBS};
+pub use papers::{Papers, Reach, SideVerdict};
 pub use rates::RatesLeft;
 pub use run::judge_side;
-pub use said::said_of;
-pub use transcript::Transcript;
+pub use spoil_claims::{CLAIM_BYTES, ClaimRow};
+pub use stored::{
+    ClaimDiffers, RowDiffers, StoredFault, claims_differ, claims_over, departments_differ,
+    departments_over,
+};
+pub use transcript::{OwnAnswer, Transcript};
 pub use words::{
     AuditedClaims, AuditedDepartments, blank_claims, blank_departments, no_manifest, no_statement,
 };

@@ -14,9 +14,11 @@ pub enum SideVerdict {
     Lawful(Ending),
     /// So far as for `Lawful`; but the report ends before the line end of the answer to this line.
     Stopped(u32),
-    /// The same, of an own line of which it is not known what was done: the report has nothing of its answer, or a failure of a node begins so. No
-    /// later run is judged.
+    /// The same, of an own line of which it is in doubt what was done: the report has nothing of its answer, or a failure of a node begins so. What the
+    /// reach says may have been done for it.
     StoppedInOwn(u32),
+    /// The same, if no reach is given for the line: no later run is judged.
+    InDoubt(u32),
     /// The report has another answer to this line than those that it may get.
     Wrong(u32),
     /// The event of this line, or a step of an own line, has forged bytes.
@@ -29,6 +31,16 @@ pub enum SideVerdict {
     Memory,
     /// This failed to be read.
     Unread(Input),
+}
+
+/// How far a run came in a line of its own at which it was stopped.
+#[derive(Clone, Copy)]
+pub struct Reach {
+    /// The line of the script, counted from 1.
+    pub line: u32,
+    /// How many steps of the line were done, each with the reply that was due; None if nothing of the line was begun. If it asks for one step more, it is
+    /// in doubt whether that was done. If it asks for none, all was done.
+    pub steps: Option<u32>,
 }
 
 /// The report of a run, and what was found in it.
@@ -47,11 +59,22 @@ pub struct Papers<R: Source> {
     pub due: Line,
     /// The events that were taken, if they are to be kept.
     pub transcript: Transcript,
+    /// How far the run came in the line of its own at which it was stopped, if it is in doubt what was done for that line.
+    pub reach: Option<Reach>,
+    /// Whether it may have come further than that.
+    pub may_reach_more: bool,
+    /// Whether the audit ended at a line of its own: a stop is then one at that line.
+    pub is_own_stop: bool,
 }
 
 impl<R: Source> Papers<R> {
     /// Of a report of which nothing was read.
-    pub fn new(report: ReadAhead<R>, imprints: Vec<Imprint>, transcript: Transcript) -> Papers<R>
+    pub fn new(
+        report: ReadAhead<R>,
+        imprints: Vec<Imprint>,
+        transcript: Transcript,
+        reach: Option<Reach>,
+    ) -> Papers<R>
         ensures { result.report ≡ report }
     {
         Papers {
@@ -62,12 +85,32 @@ impl<R: Source> Papers<R> {
             verdict: SideVerdict::Memory,
             due: Line::new(),
             transcript,
+            reach,
+            may_reach_more: false,
+            is_own_stop: false,
+        }
+    }
+
+    // Whether nothing of the line of this number was begun.
+    pub(crate) fn is_unbegun(&self, line: u32) -> bool {
+        match self.reach {
+            Some(reach) => reach.line == line && reach.steps.is_none(),
+            None => false,
+        }
+    }
+
+    // How many steps of the line of this number were done, if it was begun.
+    pub(crate) fn steps_in(&self, line: u32) -> Option<u32> {
+        match self.reach {
+            Some(reach) if reach.line == line => reach.steps,
+            _ => None,
         }
     }
 
     // Ends the audit with this verdict.
     pub(crate) fn end(&mut self, verdict: SideVerdict)
-        ensures { self.new.report ≡ self.old.report }
+        ensures report { self.new.report ≡ self.old.report }
+        ensures verdict { self.new.verdict ≡ verdict }
     {
         self.verdict = verdict;
     }

@@ -1,16 +1,17 @@
 //! The line of an event that the extension leaves to the bench.
-ghost use Rattle.std.specs.Prelude.{◌≡◌, ◌+◌, ◌<◌, ◌≤◌, length, take, IfSome};
+ghost use Rattle.std.specs.Prelude.{◌≡◌, ◌≢◌, ◌+◌, ◌<◌, ◌≤◌, ℕ, length, take, IfSome, IfNone};
 ghost use Rattle.std.specs.Io.KnownBytes.{Consumes};
 ghost use Rattle.bench_base.specs.Events.{IsWholeEvent};
 ghost use Rattle.bench.specs.declared.benches.TheConstants.{MOST_MESSAGES};
 ghost use Rattle.line_runs.specs.Lines.{ended};
 ghost use Rattle.trace_bench.specs.Seeing.{IsReady, audit_of, keeps};
 ghost use Rattle.trace_extensions.specs.Rates.{left_of};
-ghost use Rattle.trace_extensions.specs.Takes.{TakesLine};
+ghost use Rattle.trace_extensions.specs.Takes.{TakesLine, IsBegunAt, EndsWithin};
+ghost use Rattle.trace_extensions.specs.declared.papers.SideVerdict.{SideVerdict as Verdict};
 
 use crate::papers::{Papers, SideVerdict};
 use crate::rates::RatesLeft;
-use crate::taking::{Miss, admit, take};
+use crate::taking::{Miss, take, take_prefix};
 use bench_base::events::Event;
 use bench_base::stream::Source;
 use line_runs::lines::{LineRead, read_line};
@@ -18,13 +19,16 @@ use node_turns::Tell;
 use script_text::write_reply;
 use std::alloc::Global;
 use text_streams::ReadAhead;
-use trace_bench::{Auditor, Finding, stop};
+use trace_bench::Auditor;
 use trace_runs::Input;
-use trace_runs::imprint::{due_mark, given_in, keep};
+use trace_runs::imprint::{due_mark, given_in, keep, open_in};
 
 impl Miss {
     // What is said of the line of this number.
-    fn verdict(&self, number: u32) -> SideVerdict {
+    fn verdict(&self, number: u32) -> SideVerdict
+        ensures unstopped { (n : ℕ) → result ≢ Verdict.Stopped n }
+        ensures in_own { (n : ℕ) → result ≢ Verdict.StoppedInOwn n }
+    {
         match self {
             Miss::Wrong(_) => SideVerdict::Wrong(number),
             Miss::Forged => SideVerdict::Forged(number),
@@ -36,7 +40,9 @@ impl Miss {
 
 // Ends the audit at the line of this number, since its answer is not taken.
 pub(crate) fn miss<R: Source>(papers: &mut Papers<R>, number: u32, miss: Miss)
-    ensures { papers.new.report ≡ papers.old.report }
+    ensures report { papers.new.report ≡ papers.old.report }
+    ensures unstopped { (n : ℕ) → papers.new.verdict ≢ Verdict.Stopped n }
+    ensures in_own { (n : ℕ) → papers.new.verdict ≢ Verdict.StoppedInOwn n }
 {
     if let Miss::Wrong(due) = &miss {
         papers.due = write_reply(due);
@@ -61,17 +67,20 @@ fn stopped<R: Source>(
     ensures few { length (audit_of auditor.new).messages ≤ length (audit_of auditor.old).messages + 1 }
     ensures kept { keeps (audit_of auditor.new) ≡ keeps (audit_of auditor.old) }
     ensures report { papers.new.report ≡ papers.old.report }
+    ensures begun { (n : ℕ) → papers.new.verdict ≡ Verdict.Stopped n
+        → IsBegunAt event.now prefix.now (left_of rates.now) (audit_of auditor.old) (audit_of auditor.new) × (length prefix.now ≤ 256) }
+    ensures in_own { (n : ℕ) → papers.new.verdict ≢ Verdict.StoppedInOwn n }
 {
-    if let Err(why) = admit(alloc, auditor, event) {
-        return miss(papers, number, why);
-    }
-    match stop(alloc, auditor, event, rates.left(), prefix) {
-        Ok(_) => {
+    let open = open_in(event, due_mark(auditor, event), prefix);
+    match take_prefix(alloc, auditor, rates, event, prefix) {
+        Ok(()) => {
             papers.transcript.break_off(prefix);
-            papers.end(SideVerdict::Stopped(number));
+            match keep(&mut papers.imprints, number, open) {
+                Ok(()) => papers.end(SideVerdict::Stopped(number)),
+                Err(_) => papers.end(SideVerdict::Memory),
+            }
         }
-        Err(Finding::Wrong(due)) => miss(papers, number, Miss::Wrong(due)),
-        Err(Finding::Memory) => papers.end(SideVerdict::Memory),
+        Err(why) => miss(papers, number, why),
     }
 }
 
@@ -94,6 +103,8 @@ fn heard<T: Tell, R: Source>(
     ensures report { papers.new.report ≡ papers.old.report }
     ensures takes { IfSome result (λ told. TakesLine T.IsOf told event.now line.now (audit_of auditor.old) (audit_of auditor.new)
         (left_of rates.old) (left_of rates.new)) }
+    ensures unstopped { IfNone result ((n : ℕ) → papers.new.verdict ≢ Verdict.Stopped n) }
+    ensures in_own { IfNone result ((n : ℕ) → papers.new.verdict ≢ Verdict.StoppedInOwn n) }
 {
     let given = given_in(event, due_mark(auditor, event), line);
     match take(alloc, auditor, rates, event, line) {
@@ -140,6 +151,10 @@ pub(crate) fn answer<T: Tell, R: Source>(
         (left_of rates.old) (left_of rates.new)
         × Consumes (⟦<ReadAhead<R> as Source>⟧.left papers.old.report) (⟦<ReadAhead<R> as Source>⟧.left papers.new.report)
         (ended (take x.len buf.new))) }
+    ensures begun { IfNone result ((n : ℕ) → papers.new.verdict ≡ Verdict.Stopped n
+        → EndsWithin event.now (left_of rates.old) (audit_of auditor.old) (audit_of auditor.new)
+        (⟦<ReadAhead<R> as Source>⟧.left papers.old.report) (⟦<ReadAhead<R> as Source>⟧.left papers.new.report)) }
+    ensures in_own { IfNone result ((n : ℕ) → papers.new.verdict ≢ Verdict.StoppedInOwn n) }
 {
     match read_line(&mut papers.report, buf) {
         LineRead::Line(len, true) => {

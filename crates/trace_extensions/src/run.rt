@@ -1,9 +1,8 @@
 //! The audit of one run with an extension.
-ghost use Rattle.std.specs.Prelude.{◌≡◌, ◌≢◌, []};
+ghost use Rattle.std.specs.Prelude.{◌≡◌, ◌≢◌, ℕ, []};
 ghost use Rattle.std.specs.Io.KnownBytes.{Consumes, IsAtEnd};
 ghost use Rattle.trace_bench.specs.Seeing.{IsReady, audit_of, keeps};
-ghost use Rattle.trace_extensions.specs.Rates.{left_of};
-ghost use Rattle.trace_extensions.specs.Sides.{MayHaveRun};
+ghost use Rattle.trace_extensions.specs.Sides.{MayHaveRun, MayHaveStopped};
 ghost use Rattle.trace_extensions.specs.declared.papers.SideVerdict.{SideVerdict as Verdict};
 ghost use Rattle.trace_runs.specs.Verdicts.{status_of};
 ghost use Rattle.trace_runs.specs.declared.verdict.Ending.{Ending as TheEnding};
@@ -27,6 +26,8 @@ use trace_runs::{Ending, Input};
 fn over<R: Source>(papers: &mut Papers<R>, end: Ending) -> SideVerdict
     ensures lawful { (e : TheEnding) → result ≡ Verdict.Lawful e → (e ≡ end) × IsAtEnd (⟦<ReadAhead<R> as Source>⟧.left papers.new.report)
         × Consumes (⟦<ReadAhead<R> as Source>⟧.left papers.old.report) (⟦<ReadAhead<R> as Source>⟧.left papers.new.report) [] }
+    ensures unstopped { (n : ℕ) → result ≢ Verdict.Stopped n }
+    ensures in_own { (n : ℕ) → result ≢ Verdict.StoppedInOwn n }
 {
     let mut buf = [0; 600];
     match read_line(&mut papers.report, &mut buf) {
@@ -38,7 +39,9 @@ fn over<R: Source>(papers: &mut Papers<R>, end: Ending) -> SideVerdict
 
 // The verdict of an audit that ended before its script: it is never lawful.
 fn unlawful(verdict: SideVerdict) -> SideVerdict
-    ensures { (e : TheEnding) → result ≢ Verdict.Lawful e }
+    ensures unlawful { (e : TheEnding) → result ≢ Verdict.Lawful e }
+    ensures stopped { (n : ℕ) → result ≡ Verdict.Stopped n → verdict ≡ Verdict.Stopped n }
+    ensures in_own { (n : ℕ) → result ≡ Verdict.StoppedInOwn n → verdict ≡ Verdict.StoppedInOwn n }
 {
     match verdict {
         SideVerdict::Lawful(_) => SideVerdict::Memory,
@@ -49,7 +52,8 @@ fn unlawful(verdict: SideVerdict) -> SideVerdict
 /// Judges a run with an extension, over what the auditor has of the runs before and what the extension has.
 ///
 /// If it is lawful, a bench and the extension may have written this report, from whatever history the auditor had, and the auditor sees what they leave.
-/// No clause says that a run that may have been so is found lawful.
+/// No clause says that a run that may have been so is found lawful. If it was stopped, the whole lines of the report may have been written so, and the
+/// next line of the script begun: the auditor sees what that may leave, and the extension is as it found it. `InDoubt` says nothing of either.
 pub fn judge_side<S: Source, R: Source, D: TracedExtension>(
     alloc: Global,
     auditor: &mut Auditor,
@@ -62,6 +66,14 @@ pub fn judge_side<S: Source, R: Source, D: TracedExtension>(
     ensures ready { IsReady (audit_of auditor.new) }
     ensures kept { keeps (audit_of auditor.new) ≡ keeps (audit_of auditor.old) }
     ensures sound { (end : TheEnding) → result ≡ Verdict.Lawful end → MayHaveRun ⟦<D as Extension>⟧ (status_of end)
+        (⟦<ReadAhead<S> as Source>⟧.left script.old) (⟦<ReadAhead<S> as Source>⟧.left script.new)
+        (⟦<ReadAhead<R> as Source>⟧.left papers.old.report) (⟦<ReadAhead<R> as Source>⟧.left papers.new.report)
+        rates.items desk.old desk.new (audit_of auditor.old) (audit_of auditor.new) }
+    ensures stopped { (n : ℕ) → result ≡ Verdict.Stopped n → MayHaveStopped ⟦<D as Extension>⟧
+        (⟦<ReadAhead<S> as Source>⟧.left script.old) (⟦<ReadAhead<S> as Source>⟧.left script.new)
+        (⟦<ReadAhead<R> as Source>⟧.left papers.old.report) (⟦<ReadAhead<R> as Source>⟧.left papers.new.report)
+        rates.items desk.old desk.new (audit_of auditor.old) (audit_of auditor.new) }
+    ensures in_own { (n : ℕ) → result ≡ Verdict.StoppedInOwn n → MayHaveStopped ⟦<D as Extension>⟧
         (⟦<ReadAhead<S> as Source>⟧.left script.old) (⟦<ReadAhead<S> as Source>⟧.left script.new)
         (⟦<ReadAhead<R> as Source>⟧.left papers.old.report) (⟦<ReadAhead<R> as Source>⟧.left papers.new.report)
         rates.items desk.old desk.new (audit_of auditor.old) (audit_of auditor.new) }

@@ -1,18 +1,19 @@
 //! What an auditor takes for the answer to an event.
-ghost use Rattle.std.specs.Prelude.{◌≡◌, ◌+◌, ◌<◌, ◌≤◌, length, IfOk, OnOk};
+ghost use Rattle.std.specs.Prelude.{◌≡◌, ◌+◌, ◌<◌, ◌≤◌, length, IfOk, IfErr, OnOk, IsOk};
 ghost use Rattle.bench_base.specs.Events.{IsWholeEvent};
 ghost use Rattle.bench.specs.declared.benches.TheConstants.{MOST_MESSAGES};
 ghost use Rattle.ledger_moves.specs.Histories.{Unforged};
 ghost use Rattle.trace_bench.specs.Forging.{AtHistory, IsSame};
 ghost use Rattle.trace_bench.specs.Seeing.{IsReady, audit_of, keeps};
 ghost use Rattle.trace_extensions.specs.Rates.{left_of};
-ghost use Rattle.trace_extensions.specs.Takes.{TakesLine, IsDueAt};
+ghost use Rattle.trace_extensions.specs.Takes.{TakesLine, IsDueAt, IsBegunAt};
+ghost use Rattle.trace_extensions.specs.declared.taking.Miss.{Miss as TheMiss};
 
 use crate::rates::RatesLeft;
 use bench_base::events::{Event, Reply};
 use node_turns::Tell;
 use std::alloc::Global;
-use trace_bench::{Auditor, Finding, due_to, index, is_forged, judge};
+use trace_bench::{Auditor, Finding, due_to, index, is_forged, judge, stop};
 
 // Why an answer is not taken.
 #[derive(Clone, Copy)]
@@ -98,5 +99,34 @@ pub(crate) fn due_reply(
     match due_to(alloc, auditor, event, rates.left()) {
         Ok(due) => Ok(due),
         Err(_) => Err(Miss::Memory),
+    }
+}
+
+// Takes these bytes, with which the report ends, for a prefix of the answer to the event.
+pub(crate) fn take_prefix(
+    alloc: Global,
+    auditor: &mut Auditor,
+    rates: &RatesLeft,
+    event: &Event,
+    prefix: &[u8],
+) -> Result<(), Miss>
+    requires whole { IsWholeEvent event.now }
+    requires ready { IsReady (audit_of auditor.old) }
+    requires few { length (audit_of auditor.old).messages < MOST_MESSAGES }
+    ensures ready { IsReady (audit_of auditor.new) }
+    ensures few { length (audit_of auditor.new).messages ≤ length (audit_of auditor.old).messages + 1 }
+    ensures kept { keeps (audit_of auditor.new) ≡ keeps (audit_of auditor.old) }
+    ensures begun { OnOk result (IsBegunAt event.now prefix.now (left_of rates.now) (audit_of auditor.old) (audit_of auditor.new)) }
+    ensures short { IsOk result → length prefix.now ≤ 256 }
+    ensures forged { IfErr result (λ why. why ≡ TheMiss.Forged → IsSame (audit_of auditor.old) (audit_of auditor.new)) }
+{
+    match admit(alloc, auditor, event) {
+        Ok(()) => {}
+        Err(miss) => return Err(miss),
+    }
+    match stop(alloc, auditor, event, rates.left(), prefix) {
+        Ok(_) => Ok(()),
+        Err(Finding::Wrong(due)) => Err(Miss::Wrong(due)),
+        Err(Finding::Memory) => Err(Miss::Memory),
     }
 }

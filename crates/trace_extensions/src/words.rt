@@ -1,5 +1,5 @@
 //! The words of the runs that can be judged so: claims, departments, manifests and statements.
-ghost use Rattle.std.specs.Prelude.{◌≡◌, IfSome, None, false, replicate};
+ghost use Rattle.std.specs.Prelude.{◌≡◌, ◌<◌, ◌^◌, IfSome, None, false, length, replicate};
 ghost use Rattle.centre_statement.specs.Desk.{fresh, view_of};
 ghost use Rattle.host_departments.specs.Fresh.{KeepsNone as NoDepartments};
 ghost use Rattle.mail_manifest.specs.View.{listing_of};
@@ -11,7 +11,7 @@ use bench_base::events::Reply;
 use bench_base::words::Node;
 use centre_statement::StatementDesk;
 use host_departments::{CELLS, DEPARTMENT_BYTES, Departments};
-use line_extensions::Next;
+use line_extensions::{Extension, Next};
 use mail_manifest::Checker;
 use nv_model::{MemNv, Nv};
 use nv_store::Room;
@@ -27,15 +27,27 @@ const CALLS: u32 = 50_000;
 /// The room in written bytes.
 const BYTES: u32 = 2_000_000;
 
+// A storage in memory with this content.
+pub(crate) fn store_of(alloc: Global, content: Vec<u8>) -> Option<MemNv>
+    requires short { length content.items < 2 ^ 32 }
+    ensures tells { ⟦<MemNv as Nv>⟧.tells }
+    ensures powered { IfSome result (λ nv. (⟦<MemNv as Nv>⟧.meters nv).lost ≡ false) }
+    ensures only { IfSome result (λ nv. Only (⟦<MemNv as Nv>⟧.times nv) content.items) }
+{
+    match MemNv::new(alloc, content, Vec::new(alloc), CALLS, BYTES) {
+        Ok(nv) => Some(nv),
+        Err(_) => None,
+    }
+}
+
 // A storage in memory of so many zero bytes.
 fn blank_store(alloc: Global, bytes: u32) -> Option<MemNv>
     ensures tells { ⟦<MemNv as Nv>⟧.tells }
     ensures powered { IfSome result (λ nv. (⟦<MemNv as Nv>⟧.meters nv).lost ≡ false) }
     ensures blank { IfSome result (λ nv. Only (⟦<MemNv as Nv>⟧.times nv) (replicate bytes 0)) }
 {
-    let content = vec![in alloc; 0; bytes as usize].ok()?;
-    match MemNv::new(alloc, content, Vec::new(alloc), CALLS, BYTES) {
-        Ok(nv) => Some(nv),
+    match vec![in alloc; 0; bytes as usize] {
+        Ok(content) => store_of(alloc, content),
         Err(_) => None,
     }
 }
@@ -104,6 +116,25 @@ fn begins_failure(node: &Node, prefix: &[u8]) -> bool {
     begins(&Reply::Power(*node), prefix) || begins(&Reply::Fault(*node), prefix)
 }
 
+// Whether the first text of its answer begins so.
+fn says<D: Extension>(desk: &D, front: &[u8]) -> bool {
+    if desk.count() == 0 {
+        return false;
+    }
+    let mut text = Line::new();
+    desk.put(0, &mut text);
+    text.as_slice().starts_with(front)
+}
+
+// What the answer of a check begins with if the scan of the piece of this number fails.
+fn no_piece(number: u32) -> Line {
+    let mut front = Line::new();
+    front.put(b"manifest no piece");
+    front.number(number);
+    front.push(b' ');
+    front
+}
+
 /// Its one step is a scan, so the answer to a claim may be a failure of the verifier.
 impl<N: Nv> TracedExtension for Desk<N> {
     fn failure(_step: u32, line: &[u8]) -> Option<Reply> {
@@ -111,11 +142,15 @@ impl<N: Nv> TracedExtension for Desk<N> {
     }
 
     // A line without a step commits nothing.
-    fn is_in_doubt(first: &Next, prefix: &[u8]) -> bool {
+    fn is_in_doubt(&self, first: &Next, prefix: &[u8]) -> bool {
         match first {
             Next::Step(_) => begins_failure(&Node::Verifier, prefix),
             Next::Say | Next::Stop => false,
         }
+    }
+
+    fn reply_in(_step: u32, prefix: &[u8]) -> Option<&[u8]> {
+        Some(prefix)
     }
 }
 
@@ -125,30 +160,30 @@ impl<N: Nv> TracedExtension for Departments<N> {
         failure_of(&Node::Host, line)
     }
 
-    // A quota is committed without a step.
-    fn is_in_doubt(first: &Next, prefix: &[u8]) -> bool {
+    // A quota is committed without a step. Nothing else is.
+    fn is_in_doubt(&self, first: &Next, prefix: &[u8]) -> bool {
         match first {
             Next::Step(_) => begins_failure(&Node::Host, prefix),
-            Next::Say | Next::Stop => prefix.is_empty(),
+            Next::Say | Next::Stop => prefix.is_empty() && says(self, b"quota "),
         }
+    }
+
+    fn reply_in(_step: u32, prefix: &[u8]) -> Option<&[u8]> {
+        Some(prefix)
     }
 }
 
 /// Each step is the scan of a piece, so the answer to a check may report a failure of the verifier at that piece.
 impl TracedExtension for Checker {
     fn failure(step: u32, line: &[u8]) -> Option<Reply> {
-        let mut front = Line::new();
-        front.put(b"manifest no piece");
-        front.number(step);
-        front.push(b' ');
-        match line.strip_prefix(front.as_slice()) {
+        match line.strip_prefix(no_piece(step).as_slice()) {
             Some(text) => failure_of(&Node::Verifier, text),
             None => None,
         }
     }
 
     // A piece at which the verifier failed may be the last one that was scanned.
-    fn is_in_doubt(first: &Next, prefix: &[u8]) -> bool {
+    fn is_in_doubt(&self, first: &Next, prefix: &[u8]) -> bool {
         match first {
             Next::Step(_) => {
                 let front = b"manifest no piece ".as_slice();
@@ -156,6 +191,14 @@ impl TracedExtension for Checker {
             }
             Next::Say | Next::Stop => false,
         }
+    }
+
+    fn reply_in(step: u32, prefix: &[u8]) -> Option<&[u8]> {
+        let front = no_piece(step);
+        if front.as_slice().starts_with(prefix) {
+            return Some(&[]);
+        }
+        prefix.strip_prefix(front.as_slice())
     }
 }
 
@@ -166,7 +209,11 @@ impl TracedExtension for StatementDesk {
     }
 
     // A balance changes nothing.
-    fn is_in_doubt(_first: &Next, _prefix: &[u8]) -> bool {
+    fn is_in_doubt(&self, _first: &Next, _prefix: &[u8]) -> bool {
         false
+    }
+
+    fn reply_in(_step: u32, prefix: &[u8]) -> Option<&[u8]> {
+        Some(prefix)
     }
 }

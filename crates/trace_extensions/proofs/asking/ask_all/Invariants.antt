@@ -1,11 +1,11 @@
-use Rattle.std.proofs.Common.{◌≡◌, ◌+◌, ◌≤◌, length, None}
+use Rattle.std.proofs.Common.{◌≡◌, ◌+◌, ◌≤◌, length}
 use Rattle.line_extensions.specs.Desks.{world}
 use Rattle.line_extensions.specs.Wants.{MayAsk, steps_left}
 use Rattle.trace_bench.specs.Seeing.{IsReady, audit_of, keeps}
 use Rattle.trace_extensions.specs.Places.{place}
 use Rattle.trace_extensions.specs.Rates.{left_of}
 use Rattle.trace_extensions.specs.Takes.{AtEachSeen}
-use Rattle.trace_extensions.specs.Worlds.{AskedSo, audit_world}
+use Rattle.trace_extensions.specs.Worlds.{AskedSo}
 use Rattle.trace_extensions.proofs.asking.ask_all.Given as goal
 
 abbrev pub invariant-loop-next : goal.invariant-loop-next
@@ -16,7 +16,7 @@ invariant-loop-next g l = record {
   sent : l.sent ≡ length (audit_of l.fn.auditor).messages;
   kept : keeps (audit_of l.auditor) ≡ keeps (audit_of l.fn.auditor);
   asked : AtEachSeen (audit_of l.fn.auditor) (λ τ H. AskedSo g.D.Extension τ (world (place H (left_of l.fn.rates)) l.fn.desk)
-      (audit_world (audit_of l.auditor) (left_of l.rates) l.desk None) l.fn.first l.next);
+      (audit_of l.auditor) (left_of l.rates) l.desk l.fn.first l.next);
 }
 
 abbrev pub decreases-loop-next : goal.decreases-loop-next

@@ -1,7 +1,8 @@
-use Rattle.std.proofs.Common.{◌≡◌, ◌++◌, List, ℕ, Bool, true, Option, take, flat_map, sym, subst}
-use Rattle.std.specs.Io.KnownBytes.{Consumes}
+use Rattle.std.proofs.Common.{◌≡◌, ◌-◌, ◌++◌, List, [], ℕ, Bool, true, Option, take, drop, flat_map, refl, sym, subst}
+use Rattle.std.specs.Io.KnownBytes.{Consumes, IsAtEnd, prepend_known}
 use Rattle.std.proofs.KnownBytes.{Consumes-trans}
 use Rattle.line_runs.specs.Lines.{ended, IsLineIn}
+use Rattle.trace_extensions.proofs.Compared.{cut_line, no_line}
 use Rattle.trace_extensions.proofs.handler.own_line.Goals as goal
 
 -- a whole line was read, and then the rest of the answer
@@ -17,3 +18,48 @@ returns-in-Line-default-true-clause-fits g c = λ fits.
     let line = c.in-Line-default-true.ensures.taken in
     then_rest _ _ _ c.in-Line-default-true.field-1 (take c.in-Line-default-true.len c.read_line.new.buf) line.0 w.0 (flat_map ended (g.D.Extension.texts c.own_fits.new.desk)) _
     c.in-Line-default-true.field-1-test line.2.2 line.1 w.1 w.2
+
+pub returns-in-Line-default-true-clause-stopped : goal.returns-in-Line-default-true-clause-stopped
+returns-in-Line-default-true-clause-stopped g c = λ no n stop.
+    let w = c.own_fits.ensures.stopped no n stop in
+    let read = c.in-Line-default-true.ensures.taken in
+    let line = take c.in-Line-default-true.len c.read_line.new.buf in (
+      ended line ++ w.0,
+      then_rest _ _ _ c.in-Line-default-true.field-1 line read.0 w.0 (ended line ++ w.0) _ c.in-Line-default-true.field-1-test read.2.2 read.1 refl w.1,
+      w.2,
+      w.3,
+    )
+
+pub returns-in-Line-default-false-clause-stopped : goal.returns-in-Line-default-false-clause-stopped
+returns-in-Line-default-false-clause-stopped g c = λ no n stop.
+    let read = c.in-Line-default-false.ensures.taken in
+    let line = take c.in-Line-default-false.len c.read_line.new.buf in
+    let w = cut_line _ _ c.in-Line-default-false.field-1 line read.0 c.in-Line-default-false.field-1-test read.2.2 read.1 in
+    let same = (subst (λ r. Consumes (prepend_known (take (c.args.papers.now.report.end - c.args.papers.now.report.at) (drop c.args.papers.now.report.at c.args.papers.now.report.buffer.items)) (g.R.Source.left c.args.papers.now.report.inner))
+    (prepend_known (take (r.end - r.at) (drop r.at r.buffer.items)) (g.R.Source.left r.inner)) line × IsAtEnd (prepend_known (take (r.end - r.at) (drop r.at r.buffer.items)) (g.R.Source.left r.inner))) (sym c.own_begun.ensures.report) w) in
+    (line, same.0, same.1, c.own_begun.ensures.stopped n stop)
+
+pub returns-in-End-clause-stopped : goal.returns-in-End-clause-stopped
+returns-in-End-clause-stopped g c = λ no n stop.
+    let read = c.in-End.ensures.taken in
+    let same = (subst (λ r. Consumes (prepend_known (take (c.args.papers.now.report.end - c.args.papers.now.report.at) (drop c.args.papers.now.report.at c.args.papers.now.report.buffer.items)) (g.R.Source.left c.args.papers.now.report.inner))
+    (prepend_known (take (r.end - r.at) (drop r.at r.buffer.items)) (g.R.Source.left r.inner)) [] × IsAtEnd (prepend_known (take (r.end - r.at) (drop r.at r.buffer.items)) (g.R.Source.left r.inner))) (sym c.own_begun-in-End.ensures.report)
+    (no_line _ _ read.0 read.2.0 read.1 read.2.1)) in
+    ([], same.0, same.1, c.own_begun-in-End.ensures.stopped n stop)
+
+pub returns-in-Line-default-false-clause-in_own : goal.returns-in-Line-default-false-clause-in_own
+returns-in-Line-default-false-clause-in_own g c = λ no n stop.
+    let read = c.in-Line-default-false.ensures.taken in
+    let line = take c.in-Line-default-false.len c.read_line.new.buf in
+    let w = cut_line _ _ c.in-Line-default-false.field-1 line read.0 c.in-Line-default-false.field-1-test read.2.2 read.1 in
+    let same = (subst (λ r. Consumes (prepend_known (take (c.args.papers.now.report.end - c.args.papers.now.report.at) (drop c.args.papers.now.report.at c.args.papers.now.report.buffer.items)) (g.R.Source.left c.args.papers.now.report.inner))
+    (prepend_known (take (r.end - r.at) (drop r.at r.buffer.items)) (g.R.Source.left r.inner)) line × IsAtEnd (prepend_known (take (r.end - r.at) (drop r.at r.buffer.items)) (g.R.Source.left r.inner))) (sym c.own_begun.ensures.report) w) in
+    (line, same.0, same.1, c.own_begun.ensures.in_own n stop)
+
+pub returns-in-End-clause-in_own : goal.returns-in-End-clause-in_own
+returns-in-End-clause-in_own g c = λ no n stop.
+    let read = c.in-End.ensures.taken in
+    let same = (subst (λ r. Consumes (prepend_known (take (c.args.papers.now.report.end - c.args.papers.now.report.at) (drop c.args.papers.now.report.at c.args.papers.now.report.buffer.items)) (g.R.Source.left c.args.papers.now.report.inner))
+    (prepend_known (take (r.end - r.at) (drop r.at r.buffer.items)) (g.R.Source.left r.inner)) [] × IsAtEnd (prepend_known (take (r.end - r.at) (drop r.at r.buffer.items)) (g.R.Source.left r.inner))) (sym c.own_begun-in-End.ensures.report)
+    (no_line _ _ read.0 read.2.0 read.1 read.2.1)) in
+    ([], same.0, same.1, c.own_begun-in-End.ensures.in_own n stop)

@@ -1,0 +1,210 @@
+//! A report that ends within the answer to a line of its own.
+ghost use Rattle.std.specs.Prelude.{◌≡◌, ◌≢◌, ◌⊎◌, ◌+◌, ◌<◌, ◌≤◌, ℕ, List, [], length};
+ghost use Rattle.std.specs.Io.KnownBytes.{Consumes, IsAtEnd};
+ghost use Rattle.bench.specs.declared.benches.TheConstants.{MOST_MESSAGES};
+ghost use Rattle.bench_base.specs.Events.{IsWholeEvent};
+ghost use Rattle.line_extensions.specs.Wants.{MayAsk};
+ghost use Rattle.trace_bench.specs.Seeing.{IsReady, Sees, audit_of, keeps};
+ghost use Rattle.trace_extensions.specs.Rates.{left_of};
+ghost use Rattle.trace_extensions.specs.Takes.{AtEachSeen, IsBegunAt};
+ghost use Rattle.trace_extensions.specs.Worlds.{EndsInOwn};
+ghost use Rattle.trace_extensions.specs.declared.papers.SideVerdict.{SideVerdict as Verdict};
+ghost use Rattle.trace_extensions.specs.declared.taking.Miss.{Miss as TheMiss};
+
+use crate::asking::{ask_all, ask_some};
+use crate::comparing::answer_begins;
+use crate::extension::TracedExtension;
+use crate::papers::{Papers, SideVerdict};
+use crate::plain::miss;
+use crate::rates::RatesLeft;
+use crate::taking::{Miss, take_prefix};
+use bench_base::events::Event;
+use bench_base::stream::Source;
+use line_extensions::{Extension, Next};
+use line_runs::lines::{LineRead, read_line};
+use std::alloc::Global;
+use text_streams::ReadAhead;
+use trace_bench::Auditor;
+use trace_runs::Input;
+
+// Ends the audit before the line of this number, of which nothing was begun: the report has nothing of its answer.
+pub(crate) fn own_unbegun<R: Source>(number: u32, papers: &mut Papers<R>)
+    ensures unstopped { (n : ℕ) → papers.new.verdict ≢ Verdict.Stopped n }
+    ensures in_own { (n : ℕ) → papers.new.verdict ≡ Verdict.StoppedInOwn n
+        → Consumes (⟦<ReadAhead<R> as Source>⟧.left papers.old.report) (⟦<ReadAhead<R> as Source>⟧.left papers.new.report) []
+        × IsAtEnd (⟦<ReadAhead<R> as Source>⟧.left papers.new.report) }
+{
+    papers.may_reach_more = true;
+    let mut buf = [0; 600];
+    match read_line(&mut papers.report, &mut buf) {
+        LineRead::End => papers.end(SideVerdict::StoppedInOwn(number)),
+        LineRead::Line(_, _) | LineRead::Long => papers.end(SideVerdict::Wrong(number)),
+        LineRead::Fault => papers.end(SideVerdict::Unread(Input::Report)),
+    }
+}
+
+// Ends the audit at an own line of this number, where the report ends with this prefix of its answer, and it is known what was done: all of it.
+fn own_done<R: Source, D: TracedExtension>(
+    alloc: Global,
+    number: u32,
+    first: Next,
+    prefix: &[u8],
+    desk: &mut D,
+    auditor: &mut Auditor,
+    rates: &mut RatesLeft,
+    papers: &mut Papers<R>,
+)
+    requires may { MayAsk first (D.left desk.old) }
+    requires ready { IsReady (audit_of auditor.old) }
+    requires few { length (audit_of auditor.old).messages < MOST_MESSAGES }
+    ensures ready { IsReady (audit_of auditor.new) }
+    ensures few { length (audit_of auditor.new).messages ≤ length (audit_of auditor.old).messages + 1 }
+    ensures kept { keeps (audit_of auditor.new) ≡ keeps (audit_of auditor.old) }
+    ensures report { papers.new.report ≡ papers.old.report }
+    ensures stopped { (n : ℕ) → papers.new.verdict ≡ Verdict.Stopped n → EndsInOwn ⟦<D as Extension>⟧ (audit_of auditor.old)
+        (left_of rates.old) desk.old first prefix.now (audit_of auditor.new) desk.new }
+    ensures in_own { (n : ℕ) → papers.new.verdict ≢ Verdict.StoppedInOwn n }
+{
+    match ask_all(
+        alloc,
+        auditor,
+        rates,
+        desk,
+        first,
+        prefix,
+        &mut papers.transcript,
+    ) {
+        Err(why) => miss(papers, number, why),
+        Ok(Next::Say) => {
+            let verdict = SideVerdict::Stopped(number);
+            answer_begins(alloc, number, desk, prefix, verdict, papers);
+        }
+        Ok(Next::Stop | Next::Step(_)) => papers.end(SideVerdict::Memory),
+    }
+}
+
+// Ends the audit at a step of an own line that is not taken. If its bytes are forged, and the report has nothing of the line's answer, the run may have been
+// stopped before it.
+fn step_missed<R: Source>(number: u32, why: Miss, prefix: &[u8], papers: &mut Papers<R>)
+    ensures report { papers.new.report ≡ papers.old.report }
+    ensures unstopped { (n : ℕ) → papers.new.verdict ≢ Verdict.Stopped n }
+    ensures in_own { (n : ℕ) → papers.new.verdict ≡ Verdict.StoppedInOwn n → (why ≡ TheMiss.Forged) × (prefix.now ≡ []) }
+{
+    match why {
+        Miss::Forged if prefix.is_empty() => papers.end(SideVerdict::StoppedInOwn(number)),
+        _ => miss(papers, number, why),
+    }
+}
+
+// Ends the audit at the step of this number of an own line: the report ends with this prefix of the line's answer, and it is in doubt whether the step
+// was done.
+fn step_in_doubt<R: Source, D: TracedExtension>(
+    alloc: Global,
+    number: u32,
+    step: u32,
+    event: &Event,
+    prefix: &[u8],
+    auditor: &mut Auditor,
+    rates: &RatesLeft,
+    papers: &mut Papers<R>,
+)
+    requires whole { IsWholeEvent event.now }
+    requires ready { IsReady (audit_of auditor.old) }
+    requires few { length (audit_of auditor.old).messages < MOST_MESSAGES }
+    ensures ready { IsReady (audit_of auditor.new) }
+    ensures few { length (audit_of auditor.new).messages ≤ length (audit_of auditor.old).messages + 1 }
+    ensures kept { keeps (audit_of auditor.new) ≡ keeps (audit_of auditor.old) }
+    ensures report { papers.new.report ≡ papers.old.report }
+    ensures unstopped { (n : ℕ) → papers.new.verdict ≢ Verdict.Stopped n }
+    ensures in_own { (n : ℕ) → papers.new.verdict ≡ Verdict.StoppedInOwn n
+        → ((reply : List ℕ) × IsBegunAt event.now reply (left_of rates.now) (audit_of auditor.old) (audit_of auditor.new))
+        ⊎ ((prefix.now ≡ []) × AtEachSeen (audit_of auditor.old) (λ τ H. Sees (audit_of auditor.new) H)) }
+{
+    papers.may_reach_more = true;
+    let Some(reply) = D::reply_in(step, prefix) else {
+        return papers.end(SideVerdict::Wrong(number));
+    };
+    match take_prefix(alloc, auditor, rates, event, reply) {
+        Ok(()) => {
+            papers.transcript.step_begun(event, reply);
+            papers.end(SideVerdict::StoppedInOwn(number));
+        }
+        Err(why) => step_missed(number, why, prefix, papers),
+    }
+}
+
+// Ends the audit at an own line of this number, of which so many steps were done, where the report ends with this prefix of its answer.
+fn own_reached<R: Source, D: TracedExtension>(
+    alloc: Global,
+    number: u32,
+    steps: u32,
+    first: Next,
+    prefix: &[u8],
+    desk: &mut D,
+    auditor: &mut Auditor,
+    rates: &mut RatesLeft,
+    papers: &mut Papers<R>,
+)
+    requires may { MayAsk first (D.left desk.old) }
+    requires ready { IsReady (audit_of auditor.old) }
+    requires few { length (audit_of auditor.old).messages < MOST_MESSAGES }
+    ensures ready { IsReady (audit_of auditor.new) }
+    ensures few { length (audit_of auditor.new).messages ≤ length (audit_of auditor.old).messages + 1 }
+    ensures kept { keeps (audit_of auditor.new) ≡ keeps (audit_of auditor.old) }
+    ensures report { papers.new.report ≡ papers.old.report }
+    ensures unstopped { (n : ℕ) → papers.new.verdict ≢ Verdict.Stopped n }
+    ensures in_own { (n : ℕ) → papers.new.verdict ≡ Verdict.StoppedInOwn n → EndsInOwn ⟦<D as Extension>⟧ (audit_of auditor.old)
+        (left_of rates.old) desk.old first prefix.now (audit_of auditor.new) desk.new }
+{
+    let sent = auditor.message_count();
+    let transcript = &mut papers.transcript;
+    let verdict = SideVerdict::StoppedInOwn(number);
+    match ask_some(alloc, auditor, rates, desk, first, steps, transcript) {
+        Err(why) => miss(papers, number, why),
+        Ok(None) => papers.end(SideVerdict::Wrong(number)),
+        Ok(Some(Next::Step(event))) => {
+            // Only the last step of a line may send a message.
+            if auditor.message_count() != sent {
+                return papers.end(SideVerdict::Memory);
+            }
+            let step = steps.saturating_add(1);
+            step_in_doubt::<R, D>(alloc, number, step, &event, prefix, auditor, rates, papers);
+        }
+        Ok(Some(Next::Say)) => answer_begins(alloc, number, desk, prefix, verdict, papers),
+        Ok(Some(Next::Stop)) => papers.end(SideVerdict::Memory),
+    }
+}
+
+// Ends the audit at an own line of this number, where the report ends with this prefix of its answer.
+pub(crate) fn own_begun<R: Source, D: TracedExtension>(
+    alloc: Global,
+    number: u32,
+    first: Next,
+    prefix: &[u8],
+    desk: &mut D,
+    auditor: &mut Auditor,
+    rates: &mut RatesLeft,
+    papers: &mut Papers<R>,
+)
+    requires may { MayAsk first (D.left desk.old) }
+    requires ready { IsReady (audit_of auditor.old) }
+    requires few { length (audit_of auditor.old).messages < MOST_MESSAGES }
+    ensures ready { IsReady (audit_of auditor.new) }
+    ensures few { length (audit_of auditor.new).messages ≤ length (audit_of auditor.old).messages + 1 }
+    ensures kept { keeps (audit_of auditor.new) ≡ keeps (audit_of auditor.old) }
+    ensures report { papers.new.report ≡ papers.old.report }
+    ensures stopped { (n : ℕ) → papers.new.verdict ≡ Verdict.Stopped n → EndsInOwn ⟦<D as Extension>⟧ (audit_of auditor.old)
+        (left_of rates.old) desk.old first prefix.now (audit_of auditor.new) desk.new }
+    ensures in_own { (n : ℕ) → papers.new.verdict ≡ Verdict.StoppedInOwn n → EndsInOwn ⟦<D as Extension>⟧ (audit_of auditor.old)
+        (left_of rates.old) desk.old first prefix.now (audit_of auditor.new) desk.new }
+{
+    if !desk.is_in_doubt(&first, prefix) {
+        return own_done(alloc, number, first, prefix, desk, auditor, rates, papers);
+    }
+    let Some(steps) = papers.steps_in(number) else {
+        return papers.end(SideVerdict::InDoubt(number));
+    };
+    own_reached(
+        alloc, number, steps, first, prefix, desk, auditor, rates, papers,
+    );
+}
