@@ -6,11 +6,14 @@ use crate::settling::{
     with_asked, with_class, with_job, with_money, with_piece, with_request, with_ruling,
 };
 use audit_facts::Facts;
-use audit_journal::{At, BookFault, CommitKind, Form, Journal, JournalEntry, Row, place_of};
-use audit_tally::{
-    Ask, Causes, Doing, Incidents, Job, Jobs, Mishap, Outcome, Piece, Pieces, Place, Sends, Tally,
-    Ungranted, entry_of, is_given_again, mishap_at, one_more,
+use audit_journal::{
+    At, BookFault, CommitKind, Form, Journal, JournalEntry, OwnEntry, OwnKind, Row, place_of,
 };
+use audit_tally::{
+    Ask, Causes, Doing, Incidents, Job, Jobs, Mishap, Outcome, OwnSums, Piece, Pieces, Place,
+    Sends, Tally, Ungranted, entry_of, is_given_again, mishap_at, one_more,
+};
+use audit_words::shown;
 use bench_base::events::Reply;
 use bench_base::numbers::{DayNo, DevNo};
 use bench_base::words::{JobState, Node, Verdict};
@@ -22,6 +25,13 @@ use trace_nodes::is_told;
 pub struct Made {
     pub place: Place,
     pub entry: JournalEntry,
+}
+
+/// What a line of a run's own was answered, as it is shown.
+#[derive(Drop)]
+pub struct Answered {
+    pub place: Place,
+    pub text: String,
 }
 
 /// What runs came to, by the commits that count and the replies that were reported.
@@ -41,6 +51,10 @@ pub struct Book {
     pub ungranted: Vec<Ungranted>,
     pub jobs: Jobs,
     pub pieces: Pieces,
+    /// What checks of manifests, and statements as they were opened and closed, were answered.
+    pub answered: Vec<Answered>,
+    /// What lines of runs' own credited, and left to departments.
+    pub own: OwnSums,
     /// What the page of an audit shows besides.
     pub facts: Facts,
     /// For each device, from device 1 on, what it asked last.
@@ -48,6 +62,8 @@ pub struct Book {
     sends: Sends,
     /// For each node, the commit that is in doubt.
     open: [Option<Made>; 11],
+    /// The line whose commit counted last at once.
+    done: Option<Place>,
     journal: Journal,
 }
 
@@ -168,10 +184,13 @@ impl Book {
             ungranted: Vec::new(alloc),
             jobs: Jobs::new(alloc),
             pieces,
+            answered: Vec::new(alloc),
+            own: OwnSums::new(),
             facts,
             asks: [None; 8],
             sends: Sends::new(alloc),
             open: [None; 11],
+            done: None,
             journal: Journal::new(alloc, form),
         })
     }
@@ -195,6 +214,34 @@ impl Book {
         day: Option<DayNo>,
     ) -> Result<(), BookFault> {
         or_memory(self.incidents.note(place, mishap, day))
+    }
+
+    // Whether a commit of this line counted at once.
+    fn is_done(&self, place: &Place) -> bool {
+        match &self.done {
+            Some(done) => done.is_at(place),
+            None => false,
+        }
+    }
+
+    /// Keeps that the run was stopped at this line, one of its own, unless that is what was kept last. The line is done if a commit of it counted at once;
+    /// otherwise it may be in doubt whether anything was done. BookFault::Memory is lack of memory.
+    pub fn stop_at(
+        &mut self,
+        place: Place,
+        day: Option<DayNo>,
+        is_open: bool,
+    ) -> Result<(), BookFault> {
+        if self.incidents.is_last_at(&place) {
+            return Ok(());
+        }
+        self.note(place, Mishap::Stop, day)?;
+        if self.is_done(&place) {
+            self.incidents.decide_last(&place, Outcome::Done);
+        } else if is_open {
+            self.incidents.decide_last(&place, Outcome::Doubt);
+        }
+        Ok(())
     }
 
     // Counts the answer that was reported.
@@ -535,6 +582,46 @@ impl Book {
         self.journal.add(rt, &row)
     }
 
+    // Keeps what a check of a manifest or a statement was answered.
+    fn keep_answer(
+        &mut self,
+        alloc: Global,
+        place: Place,
+        entry: &OwnEntry,
+        answer: &[u8],
+    ) -> Result<(), BookFault> {
+        match entry.kind {
+            OwnKind::Credited | OwnKind::Quota | OwnKind::Assigned => Ok(()),
+            OwnKind::ManifestYes
+            | OwnKind::ManifestNo
+            | OwnKind::StatementOpened
+            | OwnKind::StatementClosed => {
+                let text = or_memory(shown(alloc, answer))?;
+                match self.answered.push(Answered { place, text }) {
+                    Ok(()) => Ok(()),
+                    Err(_) => Err(BookFault::Memory),
+                }
+            }
+        }
+    }
+
+    /// Adds what a line of a run's own did, with its answer. BookFault::Write if standard output takes no more, BookFault::Memory is lack of memory.
+    pub fn enter_own(
+        &mut self,
+        rt: &HostRuntime,
+        names: &[String],
+        place: Place,
+        entry: OwnEntry,
+        answer: &[u8],
+    ) -> Result<(), BookFault> {
+        self.facts.change(&entry.amount);
+        self.keep_answer(rt.alloc(), place, &entry, answer)?;
+        match at_of(names, place) {
+            Some(at) => self.journal.add_own(rt, at, &entry),
+            None => Ok(()),
+        }
+    }
+
     // Counts a commit: at its own line, or by an `up` at another.
     fn count(
         &mut self,
@@ -600,6 +687,7 @@ impl Book {
         seen: &Seen,
     ) -> Result<(), BookFault> {
         if seen.after.commits != seen.before.commits {
+            self.done = Some(made.place);
             self.incidents.decide_last(&made.place, Outcome::Done);
             return self.count(rt, names, made.place, made, seen);
         }

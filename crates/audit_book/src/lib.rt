@@ -5,5 +5,5 @@ mod book;
 mod seen;
 mod settling;
 
-pub use book::{Book, Made};
+pub use book::{Answered, Book, Made};
 pub use seen::{Figures, Ruling, Seen, last_ruling};

@@ -2,7 +2,7 @@
 use crate::cells::Cells;
 use crate::refusals::Refusals;
 use crate::runs::{Lines, Printed, RunFact, RunState};
-use audit_journal::JournalEntry;
+use audit_journal::{Amount, JournalEntry};
 use audit_tally::Place;
 use bench_base::numbers::DayNo;
 use std::alloc::{AllocError, Global};
@@ -24,9 +24,9 @@ pub struct Facts {
     last: Option<DayNo>,
 }
 
-// Whether an amount of the entry is no whole cent.
-fn has_mills(entry: &JournalEntry) -> bool {
-    match entry.amount {
+// Whether the amount is no whole cent.
+fn has_mills(amount: &Option<Amount>) -> bool {
+    match amount {
         Some(amount) => amount.size % 10 != 0,
         None => false,
     }
@@ -86,8 +86,13 @@ impl Facts {
         if !self.is_kept {
             return Ok(());
         }
-        self.has_mills = self.has_mills || has_mills(entry);
+        self.has_mills = self.has_mills || has_mills(&entry.amount);
         self.cells.enter(entry)
+    }
+
+    /// Keeps that a line of a run's own changed a sum by this.
+    pub fn change(&mut self, amount: &Option<Amount>) {
+        self.has_mills = self.has_mills || has_mills(amount);
     }
 
     /// Keeps a mark that was printed. AllocError is lack of memory.

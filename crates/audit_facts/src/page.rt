@@ -1,7 +1,7 @@
 //! The content of a page: runs, finding and prints.
 use crate::facts::Facts;
 use crate::standing::Standing;
-use audit_tally::{Incident, Job, Pieces, Ungranted};
+use audit_tally::{Incident, Job, OwnSums, Pieces, Ungranted};
 use bench_base::numbers::DayNo;
 
 /// What a page shows of the runs that have no finding.
@@ -15,6 +15,7 @@ pub struct PageContent<'a> {
     pub pieces: &'a Pieces,
     pub incidents: &'a [Incident],
     pub ungranted: &'a [Ungranted],
+    pub own: &'a OwnSums,
     /// For each run, the digest of all runs up to and including it.
     pub digests: &'a [[u8; 32]],
 }

@@ -4,6 +4,7 @@
 mod incidents;
 mod mail;
 mod months;
+mod own;
 mod page;
 mod refusals;
 mod runs;

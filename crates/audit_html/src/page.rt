@@ -1,6 +1,7 @@
 //! The whole page.
 use crate::incidents::put_incidents;
 use crate::mail::put_mail;
+use crate::own::put_own_sums;
 use crate::runs::{put_numbers, put_runs};
 use crate::style::{FOOTER, NARROW, PICTURES, SYMBOLS, TEXTS};
 use audit_facts::{Found, PageContent};
@@ -31,6 +32,7 @@ fn put_panels(sheet: &mut Sheet, page: &PageContent<'_>) {
     put_money(sheet, page.standing);
     put_devices(sheet, page);
     put_customers(sheet, page);
+    put_own_sums(sheet, page.own);
     put_mail(sheet, page);
     put_incidents(sheet, page);
     put_numbers(sheet, page.standing.nodes.as_slice());

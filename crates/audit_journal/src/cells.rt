@@ -21,7 +21,7 @@ pub enum Cell {
     Words(String),
 }
 
-fn number_cell(alloc: Global, number: Option<u64>) -> Result<Cell, AllocError> {
+pub(crate) fn number_cell(alloc: Global, number: Option<u64>) -> Result<Cell, AllocError> {
     match number {
         Some(number) => Ok(Cell::Number(format!(in alloc; "{number}")?)),
         None => Ok(Cell::Empty),
@@ -29,35 +29,35 @@ fn number_cell(alloc: Global, number: Option<u64>) -> Result<Cell, AllocError> {
 }
 
 // As wide as the others.
-fn widened(number: Option<u32>) -> Option<u64> {
+pub(crate) fn widened(number: Option<u32>) -> Option<u64> {
     match number {
         Some(number) => Some(number as u64),
         None => None,
     }
 }
 
-fn word_cell(alloc: Global, word: Option<&'static str>) -> Result<Cell, AllocError> {
+pub(crate) fn word_cell(alloc: Global, word: Option<&'static str>) -> Result<Cell, AllocError> {
     match word {
         Some(word) => Ok(Cell::Words(format!(in alloc; "{word}")?)),
         None => Ok(Cell::Empty),
     }
 }
 
-fn day_cell(alloc: Global, day: Option<DayNo>) -> Result<Cell, AllocError> {
+pub(crate) fn day_cell(alloc: Global, day: Option<DayNo>) -> Result<Cell, AllocError> {
     match day {
         Some(day) => Ok(Cell::Words(date_text(alloc, day.get())?)),
         None => Ok(Cell::Empty),
     }
 }
 
-fn device_cell(alloc: Global, device: Option<DevNo>) -> Result<Cell, AllocError> {
+pub(crate) fn device_cell(alloc: Global, device: Option<DevNo>) -> Result<Cell, AllocError> {
     match device {
         Some(device) => Ok(Cell::Words(format!(in alloc; "d{}", device.get())?)),
         None => Ok(Cell::Empty),
     }
 }
 
-fn amount_cell(alloc: Global, amount: Option<Amount>) -> Result<Cell, AllocError> {
+pub(crate) fn amount_cell(alloc: Global, amount: Option<Amount>) -> Result<Cell, AllocError> {
     match amount {
         Some(Amount { minus: true, size }) => Ok(Cell::Number(format!(in alloc; "-{size}")?)),
         Some(Amount { minus: false, size }) => Ok(Cell::Number(format!(in alloc; "{size}")?)),
@@ -112,7 +112,7 @@ fn ruling_word(verdict: Option<Verdict>) -> Option<&'static str> {
     }
 }
 
-fn customer_number(customer: Option<Customer>) -> Option<u64> {
+pub(crate) fn customer_number(customer: Option<Customer>) -> Option<u64> {
     match customer {
         Some(customer) => Some(customer.get() as u64),
         None => None,
@@ -127,13 +127,16 @@ fn class_number(class: Option<u16>) -> Option<u64> {
 }
 
 // Adds a column, if there was memory for what is in it.
-fn add_cell(cells: &mut Vec<Cell>, made: Result<Cell, AllocError>) -> Result<(), AllocError> {
+pub(crate) fn add_cell(
+    cells: &mut Vec<Cell>,
+    made: Result<Cell, AllocError>,
+) -> Result<(), AllocError> {
     cells.push(made?)?;
     Ok(())
 }
 
 // A column of these words, if there was memory for them.
-fn of_words(made: Result<String, AllocError>) -> Result<Cell, AllocError> {
+pub(crate) fn of_words(made: Result<String, AllocError>) -> Result<Cell, AllocError> {
     Ok(Cell::Words(made?))
 }
 

@@ -6,6 +6,7 @@ mod entry;
 mod fault;
 mod ledger;
 mod objects;
+mod own;
 mod postings;
 mod records;
 mod texts;
@@ -14,6 +15,7 @@ mod writing;
 
 pub use entry::{Account, Amount, At, CommitKind, JournalEntry, Row, place_of};
 pub use fault::BookFault;
+pub use own::{OwnAccount, OwnEntry, OwnKind};
 pub use texts::{date_text, dollars, money_text, signed_dollars};
 pub use words::{commit_word, kind_word, node_text, verdict_word};
 pub use writing::{Form, Journal};

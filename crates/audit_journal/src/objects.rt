@@ -1,6 +1,5 @@
 //! A row as an object of JSON: RFC 8259.
-use crate::cells::{BEHIND_RUN, Cell, cells_of};
-use crate::entry::Row;
+use crate::cells::{BEHIND_RUN, Cell};
 use serde_json::json;
 use std::alloc::{AllocError, Global};
 
@@ -54,11 +53,10 @@ fn begun(alloc: Global, run: &str) -> Result<String, AllocError> {
     format!(in alloc; "{{\"run\":{run}")
 }
 
-/// The object of the row. AllocError is lack of memory.
-pub fn json_row(alloc: Global, row: &Row<'_>) -> Result<String, AllocError> {
-    let cells = cells_of(alloc, row)?;
-    let mut object = begun(alloc, row.at.run)?;
-    add_columns(alloc, &mut object, cells.as_slice())?;
+/// The object of a row of this run, with what is in the columns after it. AllocError is lack of memory.
+pub fn json_row(alloc: Global, run: &str, cells: &[Cell]) -> Result<String, AllocError> {
+    let mut object = begun(alloc, run)?;
+    add_columns(alloc, &mut object, cells)?;
     object.push('}')?;
     Ok(object)
 }

@@ -1,6 +1,5 @@
 //! A row as comma-separated values: RFC 4180.
-use crate::cells::{Cell, cells_of};
-use crate::entry::Row;
+use crate::cells::Cell;
 use crate::fault::BookFault;
 use csv::{Terminator, WriterBuilder};
 use std::alloc::Global;
@@ -29,8 +28,8 @@ fn record_of(alloc: Global, fields: &[&[u8]]) -> Result<Vec<u8>, csv::Error> {
     }
 }
 
-// The record of a run and of what is in the columns after it.
-fn record_behind(alloc: Global, run: &str, cells: &[Cell]) -> Result<Vec<u8>, BookFault> {
+/// The record of a row of this run, with what is in the columns after it. BookFault::Memory is lack of memory.
+pub fn csv_row(alloc: Global, run: &str, cells: &[Cell]) -> Result<Vec<u8>, BookFault> {
     let mut fields = Vec::new(alloc);
     let Ok(()) = fields.push(run.as_bytes()) else {
         return Err(BookFault::Memory);
@@ -44,12 +43,4 @@ fn record_behind(alloc: Global, run: &str, cells: &[Cell]) -> Result<Vec<u8>, Bo
         Ok(bytes) => Ok(bytes),
         Err(_) => Err(BookFault::Memory),
     }
-}
-
-/// The record of the row. BookFault::Memory is lack of memory.
-pub fn csv_row(alloc: Global, row: &Row<'_>) -> Result<Vec<u8>, BookFault> {
-    let Ok(cells) = cells_of(alloc, row) else {
-        return Err(BookFault::Memory);
-    };
-    record_behind(alloc, row.at.run, cells.as_slice())
 }

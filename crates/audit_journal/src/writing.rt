@@ -1,8 +1,10 @@
 //! The journal on its way to standard output.
+use crate::cells::{Cell, cells_of};
 use crate::entry::{At, Row, place_of};
 use crate::fault::BookFault;
 use crate::ledger::{HEAD, doubt_comment, transaction, void_comment};
 use crate::objects::json_row;
+use crate::own::{OwnEntry, own_cells};
 use crate::records::{NAMES, csv_row};
 use bench_base::numbers::DayNo;
 use std::alloc::{AllocError, Global};
@@ -108,13 +110,13 @@ impl Journal {
         }
     }
 
-    fn put_csv(&mut self, alloc: Global, row: &Row<'_>) -> Result<(), BookFault> {
-        let record = csv_row(alloc, row)?;
+    fn put_csv(&mut self, alloc: Global, run: &str, cells: &[Cell]) -> Result<(), BookFault> {
+        let record = csv_row(alloc, run, cells)?;
         self.put(record.as_slice())
     }
 
-    fn put_json(&mut self, alloc: Global, row: &Row<'_>) -> Result<(), BookFault> {
-        let Ok(object) = json_row(alloc, row) else {
+    fn put_json(&mut self, alloc: Global, run: &str, cells: &[Cell]) -> Result<(), BookFault> {
+        let Ok(object) = json_row(alloc, run, cells) else {
             return Err(BookFault::Memory);
         };
         let between: &[u8] = if self.has_rows { b",\n" } else { b"\n" };
@@ -134,13 +136,47 @@ impl Journal {
         self.put_text(transaction(alloc, row, dated))
     }
 
+    // Puts a row of this run, with what is in the columns after it. A ledger has no rows.
+    fn put_row(
+        &mut self,
+        alloc: Global,
+        run: &str,
+        cells: Result<Vec<Cell>, AllocError>,
+    ) -> Result<(), BookFault> {
+        let Ok(cells) = cells else {
+            return Err(BookFault::Memory);
+        };
+        match self.form {
+            Form::None | Form::Ledger => Ok(()),
+            Form::Csv => self.put_csv(alloc, run, cells.as_slice()),
+            Form::Json => self.put_json(alloc, run, cells.as_slice()),
+        }
+    }
+
     /// Adds a row after the others. BookFault::Write if standard output takes no more, BookFault::Memory is lack of memory.
     pub fn add(&mut self, rt: &HostRuntime, row: &Row<'_>) -> Result<(), BookFault> {
         match self.form {
             Form::None => return Ok(()),
-            Form::Csv => self.put_csv(rt.alloc(), row)?,
-            Form::Json => self.put_json(rt.alloc(), row)?,
+            Form::Csv | Form::Json => {
+                self.put_row(rt.alloc(), row.at.run, cells_of(rt.alloc(), row))?;
+            }
             Form::Ledger => self.put_transaction(rt.alloc(), row)?,
+        }
+        self.write_much(rt)
+    }
+
+    /// Adds a row for what a line of a run's own did. A ledger has none: no node's money moved. Faults as of `add`.
+    pub fn add_own(
+        &mut self,
+        rt: &HostRuntime,
+        at: At<'_>,
+        entry: &OwnEntry,
+    ) -> Result<(), BookFault> {
+        match self.form {
+            Form::None | Form::Ledger => return Ok(()),
+            Form::Csv | Form::Json => {
+                self.put_row(rt.alloc(), at.run, own_cells(rt.alloc(), at.line, entry))?;
+            }
         }
         self.write_much(rt)
     }

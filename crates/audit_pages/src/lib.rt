@@ -1,11 +1,13 @@
 //! What is printed below the verdicts of an audit: the page of what the runs came to, and the table of what the auditor has after them.
 #![tactic(auto)]
 
+mod answered;
 mod customers;
 mod devices;
 mod incidents;
 mod jobs;
 mod money;
+mod own;
 mod page;
 mod rulings;
 mod saying;

@@ -1,11 +1,13 @@
 //! The page below the verdicts: what the runs came to, a fact a line. Amounts are in mills, with dollars beside them.
 ghost use Rattle.trace_bench.specs.Seeing.{IsReady, audit_of};
 
+use crate::answered::tell_answered;
 use crate::customers::tell_customers;
 use crate::devices::tell_devices;
 use crate::incidents::{tell_causes, tell_incidents, tell_ungranted};
 use crate::jobs::{tell_open_jobs, tell_spoiled, tell_unaccepted};
 use crate::money::tell_money;
+use crate::own::tell_own;
 use crate::saying::say;
 use audit_book::Book;
 use audit_journal::{BookFault, date_text, money_text, node_text};
@@ -162,16 +164,8 @@ fn tell_lists(rt: &HostRuntime, names: &[String], book: &Book) -> Result<(), Boo
     tell_failures(rt, names, book)
 }
 
-// Prints these lines.
-fn tell_all(rt: &HostRuntime, lines: &[String]) -> Result<(), BookFault> {
-    for line in lines.iter() {
-        say(rt, line.clone())?;
-    }
-    Ok(())
-}
-
 /// Prints the page of these runs, each with its digest, if this is the last day that was reported. Without one nothing was done in any run,
-/// and no device was made. The lines of what runs with lines of their own keep follow those of money. BookFault::Write if standard output takes no more, BookFault::Memory is lack of memory.
+/// and no device was made. BookFault::Write if standard output takes no more, BookFault::Memory is lack of memory.
 pub fn tell_page(
     rt: &HostRuntime,
     names: &[String],
@@ -179,7 +173,6 @@ pub fn tell_page(
     book: &Book,
     digests: &[[u8; 32]],
     day: Option<DayNo>,
-    own: &[String],
 ) -> Result<(), BookFault>
     requires ready { IsReady (audit_of auditor.now) }
 {
@@ -189,7 +182,8 @@ pub fn tell_page(
     }
     tell_customers(rt, auditor)?;
     tell_money(rt, auditor, book.franked, day)?;
-    tell_all(rt, own)?;
+    tell_own(rt, &book.own)?;
+    tell_answered(rt, names, book.answered.as_slice())?;
     tell_counts(rt, auditor, book)?;
     tell_lists(rt, names, book)?;
     tell_notes(rt, auditor)?;

@@ -5,8 +5,10 @@ mod figures;
 mod hearing;
 mod lines;
 mod owing;
+mod own;
 mod recount;
 
 pub use lines::Run;
 pub use owing::put_due;
+pub use own::OwnLine;
 pub use recount::Recount;

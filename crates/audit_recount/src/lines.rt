@@ -1,6 +1,7 @@
 //! A run that is whole in memory, line by line.
 ghost use Rattle.std.specs.Prelude.{◌≤◌, length};
 
+use crate::own::OwnLine;
 use memchr::memchr;
 
 /// The most lines of a script that are looked at, as by a judgement.
@@ -14,6 +15,8 @@ pub struct Run {
     pub rates: Vec<u8>,
     /// For each line of the script, the number under which it is reported; None if they are numbered from 1 on.
     pub lines: Option<Vec<u32>>,
+    /// The lines of its own that were answered, in their order. Their events are among those of the script.
+    pub own: Vec<OwnLine>,
 }
 
 /// What is left of a run.

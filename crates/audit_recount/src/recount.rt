@@ -7,11 +7,13 @@ ghost use Rattle.trace_bench.specs.Seeing.{IsReady, audit_of};
 use crate::figures::{figures_of, owner_of, seen_by};
 use crate::hearing::{judged, line_of};
 use crate::lines::{Left, Run, behind, behind_line, line_len};
+use crate::own::{OwnLine, own_entry};
 use audit_book::{Book, Figures, Made};
-use audit_journal::{BookFault, Form, JournalEntry};
-use audit_tally::{Doing, Mishap, Outcome, Place, doing_of};
+use audit_journal::{BookFault, Form, JournalEntry, OwnEntry};
+use audit_tally::{Doing, Mishap, Place, doing_of};
 use bench::MOST_MESSAGES;
 use bench_base::events::{Event, Reply};
+use bench_base::numbers::{Customer, DayNo};
 use script_text::{Line, is_skipped, read_event};
 use std::alloc::{AllocError, Global};
 use trace_bench::{Auditor, Finding, due_to, stop};
@@ -66,6 +68,8 @@ fn due(
 pub struct Recount {
     pub auditor: Auditor,
     pub book: Book,
+    /// Whose statement was opened last.
+    listed: Option<Customer>,
 }
 
 // What is known of the node of this commit.
@@ -117,6 +121,48 @@ fn tell_print(
     book.add_print(rt, names, place, JournalEntry { customer, ..entry })
 }
 
+// Counts what a line of a run's own did on this day.
+fn enter_own(
+    rt: &HostRuntime,
+    names: &[String],
+    run: usize,
+    day: &Option<DayNo>,
+    own: &OwnLine,
+    listed: &mut Option<Customer>,
+    book: &mut Book,
+) -> Result<(), BookFault> {
+    let answer = own.answer.as_slice();
+    let Some(entry) = own_entry(&mut book.own, listed, own.line.as_slice(), answer) else {
+        return Ok(());
+    };
+    let place = Place {
+        run,
+        line: own.number,
+    };
+    book.enter_own(rt, names, place, OwnEntry { day: *day, ..entry }, answer)
+}
+
+// Counts the lines of a run's own from that of this number on that come before the line of this place among the events: the number of the next one.
+fn enter_before(
+    rt: &HostRuntime,
+    names: &[String],
+    run: usize,
+    day: &Option<DayNo>,
+    own: &[OwnLine],
+    from: usize,
+    place: usize,
+    listed: &mut Option<Customer>,
+    book: &mut Book,
+) -> Result<usize, BookFault> {
+    for at in from..own.len() {
+        if own[at].place > place {
+            return Ok(at);
+        }
+        enter_own(rt, names, run, day, &own[at], listed, book)?;
+    }
+    Ok(own.len())
+}
+
 impl Recount {
     /// A clerk that went over no run, with this auditor, and a journal of this form. What the page of an audit shows besides is kept, or not.
     /// AllocError is lack of memory.
@@ -130,7 +176,11 @@ impl Recount {
         ensures ready { IfOk result (λ c. IsReady (audit_of c.auditor)) }
     {
         let book = Book::new(alloc, form, has_facts)?;
-        Ok(Recount { auditor, book })
+        Ok(Recount {
+            auditor,
+            book,
+            listed: None,
+        })
     }
 
     // Takes an event with its line of the report: how many bytes of the rates it took.
@@ -331,9 +381,57 @@ impl Recount {
         }
     }
 
-    /// Goes over the run of this place among the names, as far as its report has answers, and over the event of the line of the stop.
-    /// BookFault::Write if standard output takes no more, BookFault::Counted if a line is judged otherwise than before, BookFault::Memory is lack of
-    /// memory.
+    // Counts the lines of the run's own from that of this number on that come before the line of this place among the events: the number of the next one.
+    fn enter_before(
+        &mut self,
+        rt: &HostRuntime,
+        names: &[String],
+        place: usize,
+        run: &Run,
+        from: usize,
+        count: usize,
+    ) -> Result<usize, BookFault>
+        requires ready { IsReady (audit_of self.old.auditor) }
+        ensures ready { IsReady (audit_of self.new.auditor) }
+    {
+        let day = self.auditor.day();
+        let own = run.own.as_slice();
+        let (listed, book) = (&mut self.listed, &mut self.book);
+        enter_before(rt, names, place, &day, own, from, count, listed, book)
+    }
+
+    // Goes over the events of the run of this place among the names, as far as its report has answers, and over the event of the line of the stop: how many
+    // lines of the run's own come before the last of them.
+    fn go_over_events(
+        &mut self,
+        rt: &HostRuntime,
+        names: &[String],
+        place: usize,
+        run: &Run,
+        stopped: Option<u32>,
+    ) -> Result<usize, BookFault>
+        requires ready { IsReady (audit_of self.old.auditor) }
+        ensures ready { IsReady (audit_of self.new.auditor) }
+    {
+        let mut left = run.whole();
+        let mut told = 0;
+        for count in 0..run.most() {
+            let at = Place {
+                run: place,
+                line: run.number_at(count),
+            };
+            told = self.enter_before(rt, names, place, run, told, count)?;
+            match self.turn(rt, names, at, left, stopped)? {
+                Some(next) => left = next,
+                None => return Ok(told),
+            }
+        }
+        Ok(told)
+    }
+
+    /// Goes over the run of this place among the names, as far as its report has answers, over the event of the line of the stop, and over the lines of its
+    /// own that were answered. BookFault::Write if standard output takes no more, BookFault::Counted if a line is judged otherwise than before,
+    /// BookFault::Memory is lack of memory.
     pub fn go_over(
         &mut self,
         rt: &HostRuntime,
@@ -347,29 +445,22 @@ impl Recount {
     {
         self.auditor.begin();
         self.book.begin_run();
-        let mut left = run.whole();
-        for count in 0..run.most() {
-            let at = Place {
-                run: place,
-                line: run.number_at(count),
-            };
-            match self.turn(rt, names, at, left, stopped)? {
-                Some(next) => left = next,
-                None => return Ok(()),
+        match self.go_over_events(rt, names, place, run, stopped) {
+            Ok(told) => {
+                self.enter_before(rt, names, place, run, told, usize::MAX)?;
+                Ok(())
             }
+            Err(fault) => Err(fault),
         }
-        Ok(())
     }
 
-    /// Keeps that the run of this place among the names was stopped at this line, one of its own: what was done for it is in doubt. BookFault::Memory
-    /// is lack of memory.
-    pub fn stop_at(&mut self, run: usize, line: u32) -> Result<(), BookFault>
+    /// Keeps that the run of this place among the names was stopped at this line, one of its own, unless that was kept with a step of it. The line is
+    /// done if a commit of its steps counts; otherwise it may be in doubt whether anything was done. BookFault::Memory is lack of memory.
+    pub fn stop_at(&mut self, run: usize, line: u32, is_open: bool) -> Result<(), BookFault>
         requires ready { IsReady (audit_of self.old.auditor) }
         ensures ready { IsReady (audit_of self.new.auditor) }
     {
         let place = Place { run, line };
-        self.book.note(place, Mishap::Stop, self.auditor.day())?;
-        self.book.incidents.decide_last(&place, Outcome::Doubt);
-        Ok(())
+        self.book.stop_at(place, self.auditor.day(), is_open)
     }
 }

@@ -110,6 +110,14 @@ impl Incidents {
         Ok(())
     }
 
+    /// Whether this line is where something went wrong last.
+    pub fn is_last_at(&self, place: &Place) -> bool {
+        match self.rows.last() {
+            Some(last) => last.place.is_at(place),
+            None => false,
+        }
+    }
+
     /// Keeps what became of the commit of the line, if it is where something went wrong last.
     pub fn decide_last(&mut self, place: &Place, outcome: Outcome) {
         let count = self.rows.len();
