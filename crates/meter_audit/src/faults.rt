@@ -29,14 +29,12 @@ pub enum Fault {
     NoWord(String, String),
     #[error("cannot judge {0}: --word names it, and no such run is given")]
     NoRun(String),
-    #[error("cannot judge {0}: a run of claims goes with no --from, which does not read claims.nv")]
-    FromClaims(String),
-    #[error("cannot judge {0}: a run of departments goes with no --from, which does not read departments.nv")]
-    FromDepartments(String),
     #[error("cannot judge {0}: --due is for a last run of replay alone")]
     ReplayAlone(String),
     #[error("cannot go on behind {0}: it was stopped at a line of its own, and what was done for that is not known")]
     OwnStop(String),
+    #[error("cannot go on behind {0}: what was done for lines of their own at which runs were stopped leaves too many cases open")]
+    Cases(String),
     #[error("{0} was not stopped, so no answer is due")]
     Unstopped(String),
     #[error("cannot write standard output")]
@@ -62,10 +60,9 @@ pub fn code_of(fault: &Fault) -> u8 {
         | Fault::Unjudged(_, _)
         | Fault::NoWord(_, _)
         | Fault::NoRun(_)
-        | Fault::FromClaims(_)
-        | Fault::FromDepartments(_)
         | Fault::ReplayAlone(_)
         | Fault::OwnStop(_)
+        | Fault::Cases(_)
         | Fault::Unstopped(_)
         | Fault::Write
         | Fault::Counted => 2,

@@ -3,7 +3,7 @@ use crate::faults::{Fault, or_memory};
 use audit_recount::Run;
 use audit_words::shown_text;
 use std::fs::{self, File};
-use std::io::{self, Read};
+use std::io::{self, Read, Seek, SeekFrom};
 
 /// The most bytes that a file of rates may have: as many as 16 `rates` of a run can take, 65,537 each.
 const MOST_RATES: u64 = 1_048_592;
@@ -153,25 +153,72 @@ pub fn rates_in(rt: &HostRuntime, file: &str) -> Result<Vec<u8>, Fault> {
     all_rates(rt, file, opened)
 }
 
-// The rates of a run by its own file. A missing file is mentioned on standard error, which may take no line.
-fn own_rates(rt: &HostRuntime, name: &str) -> Result<Vec<u8>, Fault> {
+// The rates of a run by its own file; None if that is missing.
+fn own_rates(rt: &HostRuntime, name: &str) -> Result<Option<Vec<u8>>, Fault> {
     let file = joined(rt, name, ".rates")?;
     match File::open(rt, file.as_str()) {
-        Ok(opened) => all_rates(rt, file.as_str(), opened),
-        Err(error) if error.kind() == io::ErrorKind::NotFound => {
-            let missing = or_memory(shown_text(rt.alloc(), file.as_str()))?;
-            let _ = eprintln!(rt; "no {missing}: taken as empty");
-            Ok(Vec::new(rt.alloc()))
-        }
+        Ok(opened) => Ok(Some(all_rates(rt, file.as_str(), opened)?)),
+        Err(error) if error.kind() == io::ErrorKind::NotFound => Ok(None),
         Err(error) => Err(fault_at(rt, file.as_str(), &error)),
     }
 }
 
-/// The rates of a run: those of every run, if there are such.
-pub fn rates_of(rt: &HostRuntime, name: &str, shared: &Option<Vec<u8>>) -> Result<Vec<u8>, Fault> {
+/// The rates of a run, without a word on a missing file: those of every run, if there are such.
+pub fn rates_again(
+    rt: &HostRuntime,
+    name: &str,
+    shared: &Option<Vec<u8>>,
+) -> Result<Option<Vec<u8>>, Fault> {
     match shared {
-        Some(rates) => or_memory(rates.clone()),
+        Some(rates) => Ok(Some(or_memory(rates.clone())?)),
         None => own_rates(rt, name),
+    }
+}
+
+/// The rates of a run: those of every run, if there are such. A missing file is mentioned on standard error, which may take no line.
+pub fn rates_of(rt: &HostRuntime, name: &str, shared: &Option<Vec<u8>>) -> Result<Vec<u8>, Fault> {
+    if let Some(rates) = rates_again(rt, name, shared)? {
+        return Ok(rates);
+    }
+    let missing = or_memory(shown_text(rt.alloc(), joined(rt, name, ".rates")?.as_str()))?;
+    let _ = eprintln!(rt; "no {missing}: taken as empty");
+    Ok(Vec::new(rt.alloc()))
+}
+
+// Whether the file of a run that has this ending is a regular one, or missing.
+fn is_no_pipe(rt: &HostRuntime, name: &str, ending: &str) -> Result<bool, Fault> {
+    let file = joined(rt, name, ending)?;
+    match fs::metadata(rt, file.as_str()) {
+        Ok(found) => Ok(found.is_file()),
+        Err(_) => Ok(true),
+    }
+}
+
+/// Whether the files of a run can be read more than once.
+pub fn can_be_read_again(rt: &HostRuntime, name: &str) -> Result<bool, Fault> {
+    Ok(
+        is_no_pipe(rt, name, ".script")?
+            && is_no_pipe(rt, name, ".report")?
+            && is_no_pipe(rt, name, ".rates")?,
+    )
+}
+
+// The last bytes of an open file, at most so many.
+fn last_bytes(rt: &HostRuntime, opened: File, most: u64) -> io::Result<Vec<u8>> {
+    let mut opened = opened;
+    let len = opened.metadata()?.len();
+    opened.seek(SeekFrom::Start(len.saturating_sub(most)))?;
+    prefix_of(rt, opened, most)
+}
+
+/// Whether the report of a run ends with an answer to `end`. Not, if it can't be read.
+pub fn has_end(rt: &HostRuntime, name: &str) -> bool {
+    let Ok(opened) = open_of(rt, name, ".report") else {
+        return false;
+    };
+    match last_bytes(rt, opened, 5) {
+        Ok(bytes) => matches!(bytes.as_slice(), b"\nend\n" | b"end\n"),
+        Err(_) => false,
     }
 }
 
@@ -205,5 +252,6 @@ pub fn whole_run(rt: &HostRuntime, name: &str, shared: &Option<Vec<u8>>) -> Resu
         report,
         rates,
         lines: None,
+        own: Vec::new(rt.alloc()),
     })
 }

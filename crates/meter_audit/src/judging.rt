@@ -10,7 +10,9 @@ use std::cell::RefCell;
 use std::io::Read;
 use std::mem;
 use trace_bench::Auditor;
-use trace_extensions::{Papers, SideVerdict, TracedExtension, Transcript, judge_side};
+use trace_extensions::{
+    Papers as SidePapers, Reach, SideVerdict, TracedExtension, Transcript, judge_side,
+};
 use trace_runs::{Ending, Imprint, Input, Judgment, Verdict, judge_next, read_line};
 
 /// What came of a run. Numbers are those of lines of its script.
@@ -18,7 +20,7 @@ use trace_runs::{Ending, Imprint, Input, Judgment, Verdict, judge_next, read_lin
 pub enum Outcome {
     Lawful(Ending),
     Stopped(u32),
-    /// Stopped at a line of its own: what was done for it is not known.
+    /// Stopped at a line of its own, with what was done for it in doubt.
     StoppedInOwn(u32),
     Wrong(u32),
     Forged(u32),
@@ -29,10 +31,24 @@ pub enum Outcome {
     Memory,
 }
 
+/// What is read of a run.
+#[derive(Drop)]
+pub struct Papers<S: Read + Drop, R: Read + Drop> {
+    pub script: S,
+    pub report: R,
+    pub rates: Vec<u8>,
+    /// How far it came in the line of its own at which it was stopped, if that is in doubt.
+    pub reach: Option<Reach>,
+}
+
 /// What is said of a run.
 #[derive(Drop)]
 pub struct Judged {
     pub outcome: Outcome,
+    /// Whether it was stopped at a line of its own.
+    pub is_own_stop: bool,
+    /// Whether it may have come further in that line than was taken.
+    pub may_reach_more: bool,
     /// How the script ended, if the run came to its end.
     pub ending: Ending,
     /// How many lines the report has, if the run is lawful.
@@ -49,6 +65,8 @@ pub struct Judged {
 #[derive(Drop)]
 struct Summary {
     outcome: Outcome,
+    is_own_stop: bool,
+    may_reach_more: bool,
     answers: u32,
     due: Line,
 }
@@ -71,28 +89,25 @@ fn summary_of(judgment: &Judgment) -> Summary {
     };
     Summary {
         outcome,
+        is_own_stop: false,
+        may_reach_more: false,
         answers: judgment.answers,
         due,
     }
 }
 
-// What the verdict on a run with lines of its own says, with the line of the answer that was due.
-fn side_summary(verdict: SideVerdict, answers: u32, due: Line) -> Summary {
-    let outcome = match verdict {
+// What the verdict on a run with lines of its own says.
+fn outcome_of(verdict: SideVerdict) -> Outcome {
+    match verdict {
         SideVerdict::Lawful(ending) => Outcome::Lawful(ending),
         SideVerdict::Stopped(line) => Outcome::Stopped(line),
-        SideVerdict::StoppedInOwn(line) => Outcome::StoppedInOwn(line),
+        SideVerdict::StoppedInOwn(line) | SideVerdict::InDoubt(line) => Outcome::StoppedInOwn(line),
         SideVerdict::Wrong(line) => Outcome::Wrong(line),
         SideVerdict::Forged(line) => Outcome::Forged(line),
         SideVerdict::Unkept(line) => Outcome::Unkept(line),
         SideVerdict::More(line, ending) => Outcome::More(line, ending),
         SideVerdict::Memory => Outcome::Memory,
         SideVerdict::Unread(input) => Outcome::Unread(input),
-    };
-    Summary {
-        outcome,
-        answers,
-        due,
     }
 }
 
@@ -145,6 +160,8 @@ fn judged_so(
 ) -> Result<Judged, AllocError> {
     Ok(Judged {
         outcome: summary.outcome,
+        is_own_stop: summary.is_own_stop,
+        may_reach_more: summary.may_reach_more,
         ending: ending_of(summary.outcome),
         answers: summary.answers,
         is_empty,
@@ -154,19 +171,23 @@ fn judged_so(
     })
 }
 
-/// Judges the next run over what the auditor has of the runs before, by what these read. Each is read once: the imprints are added to those of the
+/// Judges the next run, of events alone, over what the auditor has of the runs before. Its papers are read once: the imprints are added to those of the
 /// runs before. AllocError is lack of memory beside that of the verdict.
 pub fn judge_over<S: Read + Drop, R: Read + Drop>(
     alloc: Global,
     auditor: &mut Auditor,
-    script: S,
-    report: R,
-    rates: &[u8],
+    papers: Papers<S, R>,
     imprints: &mut Vec<Imprint>,
 ) -> Result<Judged, AllocError>
     requires ready { IsReady (audit_of auditor.old) }
     ensures ready { IsReady (audit_of auditor.new) }
 {
+    let Papers {
+        script,
+        report,
+        rates,
+        reach: _,
+    } = papers;
     let script_tail = RefCell::new(Tail::new(alloc)?);
     let report_tail = RefCell::new(Tail::new(alloc)?);
     let mut script = lines_over(alloc, script, &script_tail)?;
@@ -176,7 +197,7 @@ pub fn judge_over<S: Read + Drop, R: Read + Drop>(
         auditor,
         &mut script,
         &mut report,
-        rates,
+        rates.as_slice(),
         imprints,
     ));
     let found = found_in(alloc, summary.outcome, &mut report, &report_tail)?;
@@ -196,26 +217,31 @@ pub fn judge_beside<S: Read + Drop, R: Read + Drop, D: TracedExtension>(
     alloc: Global,
     auditor: &mut Auditor,
     desk: &mut D,
-    script: S,
-    report: R,
-    rates: Vec<u8>,
+    papers: Papers<S, R>,
     imprints: &mut Vec<Imprint>,
     transcript: &mut Transcript,
 ) -> Result<Judged, AllocError>
     requires ready { IsReady (audit_of auditor.old) }
     ensures ready { IsReady (audit_of auditor.new) }
 {
+    let Papers {
+        script,
+        report,
+        rates,
+        reach,
+    } = papers;
     let script_tail = RefCell::new(Tail::new(alloc)?);
     let report_tail = RefCell::new(Tail::new(alloc)?);
     let mut script = lines_over(alloc, script, &script_tail)?;
     let report = lines_over(alloc, report, &report_tail)?;
-    let mut papers = Papers::new(
+    let mut side = SidePapers::new(
         report,
         mem::replace(imprints, Vec::new(alloc)),
         mem::replace(transcript, Transcript::new(alloc, false)),
+        reach,
     );
-    let verdict = judge_side(alloc, auditor, desk, &mut script, rates, &mut papers);
-    let Papers {
+    let verdict = judge_side(alloc, auditor, desk, &mut script, rates, &mut side);
+    let SidePapers {
         report,
         imprints: given,
         line: _,
@@ -223,14 +249,23 @@ pub fn judge_beside<S: Read + Drop, R: Read + Drop, D: TracedExtension>(
         verdict: _,
         due,
         transcript: written,
-    } = papers;
+        reach: _,
+        may_reach_more,
+        is_own_stop,
+    } = side;
     if written.has_failed {
         return Err(AllocError);
     }
     *imprints = given;
     *transcript = written;
     let mut report = report;
-    let summary = side_summary(verdict, answers, due);
+    let summary = Summary {
+        outcome: outcome_of(verdict),
+        is_own_stop,
+        may_reach_more,
+        answers,
+        due,
+    };
     let found = last_taken(alloc, &mut report, &report_tail)?;
     let line = last_taken(alloc, &mut script, &script_tail)?;
     judged_so(

@@ -5,20 +5,23 @@
 #![tactic(auto)]
 
 mod checking;
+mod desks;
 mod digest;
 mod faults;
 mod files;
 mod folders;
 mod held;
 mod judging;
-mod own_sums;
+mod own_storages;
 mod page;
 mod plan;
 mod prints;
+mod reaches;
 mod runs;
 mod scripts;
 mod seen;
 mod starting;
+mod states;
 mod storage_files;
 mod storages;
 mod tails;
@@ -33,10 +36,11 @@ use audit_recount::Recount;
 use audit_words::{Asked, Call, HELP, VERSION, Words, WordsFault, read_call};
 use checking::check;
 use faults::{Fault, code_of, or_book, or_memory, or_write};
-use own_sums::own_sums;
+use own_storages::Kept;
 use page::tell_html;
 use plan::{Plan, plan_of};
 use prints::{Said, judge_prints};
+use reaches::{Reaches, find_reaches};
 use runs::{Gathered, judge_all, say, say_finding, want_known};
 use seen::{SeenFile, read_seen, tell_seen};
 use starting::{halted, starts_of};
@@ -95,7 +99,7 @@ fn tell_prints(rt: &HostRuntime, plan: &mut Plan, gathered: &mut Gathered) -> Re
         printed,
         plan.names.as_slice(),
         gathered.ends.as_slice(),
-        gathered.imprints.as_slice(),
+        gathered.desks.imprints.as_slice(),
     )?;
     let Said {
         text,
@@ -140,39 +144,13 @@ fn tell_marks(
     }
 }
 
-// Prints the page of what the runs came to. After a stop at a line of its own it is not known what is kept of claims and departments.
-fn tell_sums(
-    rt: &HostRuntime,
-    plan: &Plan,
-    auditor: &Auditor,
-    clerk: &Recount,
-    gathered: &mut Gathered,
-) -> Result<(), Fault>
-    requires ready { IsReady (audit_of auditor.now) }
-{
-    let own = if gathered.is_own_stop {
-        Vec::new(rt.alloc())
-    } else {
-        own_sums(rt.alloc(), &mut gathered.claims, &mut gathered.departments)?
-    };
-    or_book(tell_page(
-        rt,
-        plan.names.as_slice(),
-        auditor,
-        &clerk.book,
-        gathered.digests.as_slice(),
-        gathered.day,
-        own.as_slice(),
-    ))
-}
-
 // Prints what is asked for below the verdicts, where nothing was found.
 fn tell_below(
     rt: &HostRuntime,
     plan: &Plan,
     auditor: &Auditor,
     clerk: &Recount,
-    gathered: &mut Gathered,
+    gathered: &Gathered,
 ) -> Result<(), Fault>
     requires ready { IsReady (audit_of auditor.now) }
     requires ready_clerk { IsReady (audit_of clerk.now.auditor) }
@@ -181,7 +159,10 @@ fn tell_below(
         Asked::Nothing | Asked::Csv | Asked::Json | Asked::Ledger | Asked::Due => Ok(()),
         Asked::Html => tell_html(rt, plan, clerk, gathered),
         Asked::Table => or_book(tell_table(rt, auditor, gathered.day)),
-        Asked::Page => tell_sums(rt, plan, auditor, clerk, gathered),
+        Asked::Page => {
+            let (names, digests) = (plan.names.as_slice(), gathered.digests.as_slice());
+            or_book(tell_page(rt, names, auditor, &clerk.book, digests, gathered.day))
+        }
     }
 }
 
@@ -202,6 +183,7 @@ fn tell_found(rt: &HostRuntime, plan: &Plan, clerk: &Recount, gathered: &Gathere
 fn judge_words(
     rt: &HostRuntime,
     planned: Result<Plan, Fault>,
+    reaches: Reaches,
     auditor: &mut Auditor,
     clerk: &mut Recount,
 ) -> Result<u8, Fault>
@@ -210,21 +192,23 @@ fn judge_words(
 {
     let mut plan = planned?;
     let seen = read_marks(rt, &plan, auditor)?;
-    let mut gathered = Gathered::new(rt.alloc());
+    let mut gathered = Gathered::new(rt.alloc(), reaches);
+    gathered.desks.claims = plan.kept.claims.take();
+    gathered.desks.departments = plan.kept.departments.take();
     if judge_all(rt, &plan, auditor, clerk, &mut gathered)? != 0 {
         return Ok(tell_found(rt, &plan, clerk, &gathered));
     }
     let prints_code = tell_prints(rt, &mut plan, &mut gathered)?;
     let marks_code = tell_marks(rt, &plan, auditor, seen)?;
     if plan.storages.is_some() || plan.asked == Asked::Table {
-        want_known(rt, &plan, &gathered, plan.names.len())?;
+        want_known(rt, &plan, &gathered)?;
     }
-    let storages_code = tell_storages(rt, plan.asked, auditor, &plan.storages)?;
+    let storages_code = tell_storages(rt, &plan, auditor, &gathered)?;
     if prints_code != 0 || marks_code != 0 || storages_code != 0 {
         return Ok(tell_found(rt, &plan, clerk, &gathered));
     }
-    tell_below(rt, &plan, auditor, clerk, &mut gathered)?;
-    let is_undecided = gathered.is_undecided || is_in_doubt(auditor);
+    tell_below(rt, &plan, auditor, clerk, &gathered)?;
+    let is_undecided = gathered.is_undecided() || is_in_doubt(auditor);
     Ok(if is_undecided && !plan.is_lenient {
         UNDECIDED
     } else {
@@ -264,6 +248,7 @@ fn audit_over(
     rt: &HostRuntime,
     asked: Asked,
     planned: Result<Plan, Fault>,
+    reaches: Reaches,
     auditor: Auditor,
     second: Auditor,
 ) -> Result<u8, Fault>
@@ -276,14 +261,18 @@ fn audit_over(
         return Err(Fault::Memory);
     };
     or_book(clerk.book.begin())?;
-    let judged = judge_words(rt, planned, &mut auditor, &mut clerk);
+    let judged = judge_words(rt, planned, reaches, &mut auditor, &mut clerk);
     end_journal(rt, &mut clerk, judged)
 }
 
 // Judges what the words name, from blank storages on.
 fn audit_from_blank(rt: &HostRuntime, words: Words) -> Result<u8, Fault> {
     let asked = words.asked;
-    let planned = plan_of(rt, words, false);
+    let planned = plan_of(rt, words, Kept::nothing());
+    let reaches = match &planned {
+        Ok(plan) => find_reaches(rt, plan)?,
+        Err(_) => Reaches::unknown(rt.alloc()),
+    };
     let is_kept = has_bytes(&planned);
     let Ok(auditor) = Auditor::new(rt.alloc(), is_kept) else {
         return Err(Fault::Memory);
@@ -291,7 +280,7 @@ fn audit_from_blank(rt: &HostRuntime, words: Words) -> Result<u8, Fault> {
     let Ok(second) = Auditor::new(rt.alloc(), is_kept) else {
         return Err(Fault::Memory);
     };
-    audit_over(rt, asked, planned, auditor, second)
+    audit_over(rt, asked, planned, reaches, auditor, second)
 }
 
 // Judges what the words name, from the storages of this folder on.
@@ -299,8 +288,9 @@ fn audit_from(rt: &HostRuntime, folder: &str, words: Words) -> Result<u8, Fault>
     let asked = words.asked;
     match starts_of(rt, asked, folder) {
         Ok(starts) => {
-            let planned = plan_of(rt, words, true);
-            audit_over(rt, asked, planned, starts.auditor, starts.second)
+            let planned = plan_of(rt, words, starts.kept);
+            let unknown = Reaches::unknown(rt.alloc());
+            audit_over(rt, asked, planned, unknown, starts.auditor, starts.second)
         }
         Err(halt) => halted(rt, asked, halt),
     }

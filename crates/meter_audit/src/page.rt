@@ -87,6 +87,7 @@ pub fn run_finding(
         report,
         rates: _,
         lines: _,
+        own: _,
     } = run;
     Some(RunFinding {
         kind,
@@ -115,6 +116,7 @@ fn write_page(
         pieces: &book.pieces,
         incidents: book.incidents.as_slice(),
         ungranted: book.ungranted.as_slice(),
+        own: &book.own,
         digests: gathered.digests.as_slice(),
     };
     let found = Found {

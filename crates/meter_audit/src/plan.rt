@@ -3,9 +3,10 @@ use crate::faults::{Fault, or_memory};
 use crate::files::{open_file, rates_in, want_regular};
 use crate::folders::runs_in;
 use crate::held::{HeldFolder, hold};
+use crate::own_storages::Kept;
 use crate::prints::PrintsFile;
 use crate::scripts::may_bring_bytes;
-use crate::words::{Word, have_own_lines, want_judged, want_owing, words_of};
+use crate::words::{Word, have_own_lines, want_owing, words_of};
 use audit_words::{Asked, NamedWord, Words};
 
 /// What is judged, and what is printed beside the verdicts.
@@ -24,6 +25,8 @@ pub struct Plan {
     pub seen: Option<String>,
     /// The folder whose storages are compared, which is held.
     pub storages: Option<HeldFolder>,
+    /// The claims and the departments that the first run begins with.
+    pub kept: Kept,
     /// Whether a script may have a `give`, a `scan N hex` or a line of its own: what runs send and release is then kept.
     pub has_bytes: bool,
 }
@@ -98,20 +101,16 @@ fn judged_words(
     names: &[String],
     run_words: &[NamedWord],
     asked: Asked,
-    has_start: bool,
 ) -> Result<Vec<Word>, Fault> {
     let words = words_of(rt, run_words, names)?;
-    for place in 0..names.len().min(words.len()) {
-        want_judged(rt, names[place].as_str(), words[place], has_start)?;
-    }
     if let (Some(name), Some(word)) = (names.last(), words.last()) {
         want_owing(rt, name.as_str(), *word, asked)?;
     }
     Ok(words)
 }
 
-/// What these words come to, with a start from storages or from blank ones. Each file that is that of every run is opened before the first run is judged.
-pub fn plan_of(rt: &HostRuntime, words: Words, has_start: bool) -> Result<Plan, Fault> {
+/// What these words come to, if runs begin with these claims and departments. Each file that is that of every run is opened before the first run is judged.
+pub fn plan_of(rt: &HostRuntime, words: Words, kept: Kept) -> Result<Plan, Fault> {
     let Words {
         folder,
         rates,
@@ -125,7 +124,7 @@ pub fn plan_of(rt: &HostRuntime, words: Words, has_start: bool) -> Result<Plan, 
         names,
     } = words;
     let names = all_runs(rt, &folder, names)?;
-    let words = judged_words(rt, names.as_slice(), run_words.as_slice(), asked, has_start)?;
+    let words = judged_words(rt, names.as_slice(), run_words.as_slice(), asked)?;
     let rates = shared_rates(rt, &rates, names.len())?;
     let printed = open_prints(rt, prints)?;
     let storages = hold_storages(rt, storages)?;
@@ -139,6 +138,7 @@ pub fn plan_of(rt: &HostRuntime, words: Words, has_start: bool) -> Result<Plan, 
         printed,
         seen,
         storages,
+        kept,
         has_bytes,
     })
 }

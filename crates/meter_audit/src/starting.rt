@@ -6,9 +6,13 @@ use crate::digest::Sum;
 use crate::faults::{Fault, or_memory};
 use crate::files::unusable;
 use crate::held::hold;
+use crate::own_storages::{Kept, OwnDigests, stored_claims, stored_departments, tell_own_digests};
 use crate::runs::say_finding;
-use crate::storage_files::{file_fault, file_fault_text, path_in, storage_name};
-use crate::storages::{tell_digest, tell_own_storages};
+use crate::storage_files::{
+    Halt, file_fault, file_fault_text, finding, no_record_text, or_halt, path_in, storage_bytes,
+    storage_name,
+};
+use crate::storages::tell_digest;
 use audit_words::{Asked, shown_text};
 use bench_base::numbers::DevNo;
 use bench_base::words::Node;
@@ -20,14 +24,6 @@ use trace_images::{
     verifier_record,
 };
 
-/// Why there is no start.
-#[derive(Drop)]
-pub enum Halt {
-    /// A storage shows no record of its node: what is said of it.
-    Finding(String),
-    Fault(Fault),
-}
-
 /// An auditor that starts from the storages of a folder, and the digest of these.
 #[derive(Drop)]
 struct Start {
@@ -35,11 +31,12 @@ struct Start {
     digest: Sum,
 }
 
-/// The auditors that start from the storages of a folder: that of the verdicts, and that which goes over the runs once more.
+/// What starts from the storages of a folder: the auditor of the verdicts, that which goes over the runs once more, and the claims and departments.
 #[derive(Drop)]
 pub struct Starts {
     pub auditor: Auditor,
     pub second: Auditor,
+    pub kept: Kept,
 }
 
 /// The storages of a folder, as they are read.
@@ -49,21 +46,10 @@ struct Reader<'a> {
     hasher: Sha256,
 }
 
-// What was done, or why it can't be.
-fn or_halt<T>(done: Result<T, Fault>) -> Result<T, Halt> {
-    match done {
-        Ok(done) => Ok(done),
-        Err(fault) => Err(Halt::Fault(fault)),
-    }
-}
-
 // What is said of the node's storage that shows no record.
 fn no_record(rt: &HostRuntime, node: &Node) -> Halt {
-    let Ok(file) = storage_name(rt.alloc(), node) else {
-        return Halt::Fault(Fault::Memory);
-    };
-    match format!(in rt.alloc(); "{file} shows no record that a meter leaves") {
-        Ok(text) => Halt::Finding(text),
+    match storage_name(rt.alloc(), node) {
+        Ok(file) => finding(no_record_text(rt.alloc(), file.as_str())),
         Err(_) => Halt::Fault(Fault::Memory),
     }
 }
@@ -78,12 +64,10 @@ fn changed(rt: &HostRuntime, folder: &str) -> Halt {
 
 // Refuses the file of the node's storage if something is wrong with it as such.
 fn want_fit(rt: &HostRuntime, file: &str, path: &str, node: &Node) -> Result<(), Halt> {
-    let Some(fault) = or_halt(file_fault(rt, path, node))? else {
-        return Ok(());
-    };
-    match file_fault_text(rt.alloc(), file, node, fault) {
-        Ok(text) => Err(Halt::Finding(text)),
-        Err(_) => Err(Halt::Fault(Fault::Memory)),
+    let bytes = storage_bytes(node);
+    match or_halt(file_fault(rt, path, bytes))? {
+        Some(fault) => Err(finding(file_fault_text(rt.alloc(), file, bytes, fault))),
+        None => Ok(()),
     }
 }
 
@@ -204,7 +188,7 @@ fn second_of(rt: &HostRuntime, asked: Asked, folder: &str, sum: &Sum) -> Result<
     Ok(start.auditor)
 }
 
-/// The auditors that start from the storages of this folder, whose digest is printed. The folder is held while they are read.
+/// What starts from the storages of this folder, whose digests are printed. The folder is held while they are read.
 pub fn starts_of(rt: &HostRuntime, asked: Asked, folder: &str) -> Result<Starts, Halt>
     ensures ready { IfOk result (λ s. IsReady (audit_of s.auditor)) }
     ensures ready_second { IfOk result (λ s. IsReady (audit_of s.second)) }
@@ -213,12 +197,22 @@ pub fn starts_of(rt: &HostRuntime, asked: Asked, folder: &str) -> Result<Starts,
     let _held = or_halt(hold(rt, name))?;
     let start = start_of(rt, folder)?;
     let second = second_of(rt, asked, folder, &start.digest)?;
+    let claims = stored_claims(rt, folder)?;
+    let departments = stored_departments(rt, folder)?;
+    let sums = OwnDigests {
+        claims: claims.sum,
+        departments: departments.sum,
+    };
     let shown = or_halt(or_memory(shown_text(rt.alloc(), folder)))?;
     or_halt(tell_digest(rt, asked, shown.as_str(), &start.digest))?;
-    or_halt(tell_own_storages(rt, asked, folder, "read"))?;
+    or_halt(tell_own_digests(rt, asked, shown.as_str(), &sums))?;
     Ok(Starts {
         auditor: start.auditor,
         second,
+        kept: Kept {
+            claims: claims.kept,
+            departments: departments.kept,
+        },
     })
 }
 

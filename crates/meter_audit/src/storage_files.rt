@@ -7,6 +7,7 @@ use bench_base::words::Node;
 use host_jobs::HOST_BYTES;
 use std::alloc::{AllocError, Global};
 use std::{fs, io};
+use trace_extensions::{CLAIM_BYTES, DEPARTMENT_BYTES};
 
 /// How many storages a bench has.
 pub const STORAGES: u32 = 11;
@@ -19,6 +20,37 @@ pub enum FileFault {
     Irregular,
     /// It has so many bytes, and not its own number.
     Size(u64),
+}
+
+/// A storage that belongs to no node.
+#[derive(Clone, Copy)]
+pub enum OwnStorage {
+    Claims,
+    Departments,
+}
+
+/// Why the storages of a folder are not used.
+#[derive(Drop)]
+pub enum Halt {
+    /// One of them is not as it is due: what is said of it.
+    Finding(String),
+    Fault(Fault),
+}
+
+/// What was done, or why it can't be.
+pub fn or_halt<T>(done: Result<T, Fault>) -> Result<T, Halt> {
+    match done {
+        Ok(done) => Ok(done),
+        Err(fault) => Err(Halt::Fault(fault)),
+    }
+}
+
+/// The finding with this text.
+pub fn finding(text: Result<String, AllocError>) -> Halt {
+    match text {
+        Ok(text) => Halt::Finding(text),
+        Err(_) => Halt::Fault(Fault::Memory),
+    }
 }
 
 /// The node of this number, from 1: the devices, the centre, the host and the verifier.
@@ -65,30 +97,50 @@ pub fn storage_bytes(node: &Node) -> u64 {
     })
 }
 
-/// What is wrong with the file of the node's storage as such, if something is.
-pub fn file_fault(rt: &HostRuntime, path: &str, node: &Node) -> Result<Option<FileFault>, Fault> {
+/// The name of a storage that belongs to no node.
+pub fn own_name(storage: OwnStorage) -> &'static str {
+    match storage {
+        OwnStorage::Claims => "claims.nv",
+        OwnStorage::Departments => "departments.nv",
+    }
+}
+
+/// How many bytes it has.
+pub fn own_bytes(storage: OwnStorage) -> u64 {
+    u64::from(match storage {
+        OwnStorage::Claims => CLAIM_BYTES,
+        OwnStorage::Departments => DEPARTMENT_BYTES,
+    })
+}
+
+/// What is wrong with the file of a storage of so many bytes as such, if something is.
+pub fn file_fault(rt: &HostRuntime, path: &str, bytes: u64) -> Result<Option<FileFault>, Fault> {
     match fs::symlink_metadata(rt, path) {
         Ok(found) if found.file_type().is_symlink() => Ok(Some(FileFault::Link)),
         Ok(found) if !found.is_file() => Ok(Some(FileFault::Irregular)),
-        Ok(found) if found.len() != storage_bytes(node) => Ok(Some(FileFault::Size(found.len()))),
+        Ok(found) if found.len() != bytes => Ok(Some(FileFault::Size(found.len()))),
         Ok(_) => Ok(None),
         Err(error) if error.kind() == io::ErrorKind::NotFound => Ok(Some(FileFault::Missing)),
         Err(_) => Err(unusable(rt, path)),
     }
 }
 
-/// What is said of it.
+/// What is said of the file of a storage of so many bytes.
 pub fn file_fault_text(
     alloc: Global,
     file: &str,
-    node: &Node,
+    bytes: u64,
     fault: FileFault,
 ) -> Result<String, AllocError> {
-    let bytes = storage_bytes(node);
     match fault {
         FileFault::Missing => format!(in alloc; "{file} is missing"),
         FileFault::Link => format!(in alloc; "{file} is a link"),
         FileFault::Irregular => format!(in alloc; "{file} is no regular file"),
         FileFault::Size(found) => format!(in alloc; "{file}: due {bytes} bytes, found {found}"),
     }
+}
+
+/// What is said of a storage whose bytes no meter leaves.
+pub fn no_record_text(alloc: Global, file: &str) -> Result<String, AllocError> {
+    format!(in alloc; "{file} shows no record that a meter leaves")
 }

@@ -1,13 +1,16 @@
 //! The storages of a folder, compared with what the runs left.
 ghost use Rattle.trace_bench.specs.Seeing.{IsReady, audit_of};
 
+use crate::desks::Desks;
 use crate::digest::{Hashed, Sum, sum_text};
 use crate::faults::{Fault, or_memory};
 use crate::files::unusable;
 use crate::held::HeldFolder;
-use crate::runs::{say, say_finding};
+use crate::own_storages::{are_own_as_left, compare_own, tell_own_digests};
+use crate::plan::Plan;
+use crate::runs::{Gathered, say, say_finding};
 use crate::storage_files::{
-    FileFault, STORAGES, file_fault, file_fault_text, node_at, path_in, storage_name,
+    FileFault, STORAGES, file_fault, file_fault_text, node_at, path_in, storage_bytes, storage_name,
 };
 use crate::verdicts::FINDING;
 use audit_words::{Asked, shown_text};
@@ -16,7 +19,7 @@ use bench_base::words::Node;
 use sha2::{Digest, Sha256};
 use std::alloc::{AllocError, Global};
 use std::cell::RefCell;
-use std::fs::{self, File};
+use std::fs::File;
 use std::io::BufReader;
 use trace_bench::Auditor;
 use trace_folder::{
@@ -26,9 +29,6 @@ use trace_folder::{
 
 /// How much of a storage is read at once, in bytes.
 const BLOCK: usize = 65_536;
-
-/// The storages that belong to no node: they are not compared or read, and what an audit has of claims is not compared with them.
-const OWN_STORAGES: [&str; 2] = ["claims.nv", "departments.nv"];
 
 /// A storage that is read.
 type Image<'a> = IoSource<BufReader<Hashed<'a, File>>>;
@@ -110,7 +110,7 @@ fn look_at(
 ) -> Result<StorageFinding, Fault>
     requires ready { IsReady (audit_of auditor.now) }
 {
-    if let Some(fault) = file_fault(rt, path, node)? {
+    if let Some(fault) = file_fault(rt, path, storage_bytes(node))? {
         return Ok(StorageFinding::Unfit(fault));
     }
     let mut image = open_storage(rt, path, hasher)?;
@@ -210,7 +210,9 @@ fn finding_text(
         StorageFinding::Other(place, due, found) => other_text(
             alloc, file, node, place, due, found,
         )?,
-        StorageFinding::Unfit(fault) => file_fault_text(alloc, file, node, fault)?,
+        StorageFinding::Unfit(fault) => {
+            file_fault_text(alloc, file, storage_bytes(node), fault)?
+        }
     };
     Ok(Some(text))
 }
@@ -250,36 +252,7 @@ fn report_storage(
     Ok(0)
 }
 
-// Says of a storage that belongs to no node, if it is there, that this was not done with it.
-fn tell_own(
-    rt: &HostRuntime,
-    asked: Asked,
-    folder: &str,
-    file: &str,
-    undone: &str,
-) -> Result<(), Fault> {
-    let path = or_memory(path_in(rt.alloc(), folder, file))?;
-    if fs::symlink_metadata(rt, path.as_str()).is_err() {
-        return Ok(());
-    }
-    let text = or_memory(format!(in rt.alloc(); "{file} was not {undone}"))?;
-    say(rt, asked, text.as_str())
-}
-
-/// Says of each storage of the folder that belongs to no node that this was not done with it.
-pub fn tell_own_storages(
-    rt: &HostRuntime,
-    asked: Asked,
-    folder: &str,
-    undone: &str,
-) -> Result<(), Fault> {
-    for file in OWN_STORAGES {
-        tell_own(rt, asked, folder, file, undone)?;
-    }
-    Ok(())
-}
-
-// Compares the storages of the folder, which are hashed, and says what is to be said of each: the exit status.
+// Compares the storages of the nodes in the folder, which are hashed, and says what is to be said of each: the exit status.
 fn tell_each(
     rt: &HostRuntime,
     asked: Asked,
@@ -296,36 +269,78 @@ fn tell_each(
         let finding = report_storage(rt, asked, auditor, &node, folder, hasher, &mut buffer)?;
         code = code.max(finding);
     }
-    tell_own_storages(rt, asked, folder, "compared")?;
     Ok(code)
 }
 
 /// Compares the storages of the folder, if one is named, with what the runs left, and says what is to be said of each: the exit status. If nothing is found,
-/// the digest is the last line.
+/// the digests are the last lines.
 pub fn tell_storages(
     rt: &HostRuntime,
-    asked: Asked,
+    plan: &Plan,
     auditor: &Auditor,
-    folder: &Option<HeldFolder>,
+    gathered: &Gathered,
 ) -> Result<u8, Fault>
     requires ready { IsReady (audit_of auditor.now) }
 {
-    let Some(folder) = folder else {
+    let Some(folder) = &plan.storages else {
         return Ok(0);
     };
+    let (asked, name) = (plan.asked, folder.name.as_str());
     let hasher = RefCell::new(Sha256::new());
-    let code = tell_each(rt, asked, auditor, folder.name.as_str(), &hasher)?;
-    if code == FINDING {
-        return Ok(code);
-    }
-    let shown = or_memory(shown_text(rt.alloc(), folder.name.as_str()))?;
+    let code = tell_each(rt, asked, auditor, name, &hasher)?;
+    let own = compare_own(
+        rt,
+        asked,
+        name,
+        &gathered.desks.claims,
+        &gathered.desks.departments,
+    )?;
+    let sums = match own {
+        Some(sums) if code != FINDING => sums,
+        _ => return Ok(FINDING),
+    };
+    let shown = or_memory(shown_text(rt.alloc(), name))?;
     let text = or_memory(format!(in rt.alloc(); "folder {shown} shows what the runs left"))?;
     say(rt, asked, text.as_str())?;
     tell_digest(rt, asked, shown.as_str(), &hasher.into_inner().finalize())?;
+    tell_own_digests(rt, asked, shown.as_str(), &sums)?;
     Ok(0)
 }
 
-/// Prints the digest of the folder of this name, as it is shown.
+// Whether the storages of the nodes in the folder show what the runs left.
+fn are_nodes_as_left(rt: &HostRuntime, auditor: &Auditor, folder: &str) -> Result<bool, Fault>
+    requires ready { IsReady (audit_of auditor.now) }
+{
+    let hasher = RefCell::new(Sha256::new());
+    let mut buffer = [0; MOST_CELL];
+    for number in 0..STORAGES {
+        let node = node_at(number + 1);
+        let file = or_memory(storage_name(rt.alloc(), &node))?;
+        let path = or_memory(path_in(rt.alloc(), folder, file.as_str()))?;
+        if is_other(look_at(rt, auditor, &node, path.as_str(), &hasher, &mut buffer)?) {
+            return Ok(false);
+        }
+    }
+    Ok(true)
+}
+
+/// Whether the storages of the folder show what the runs left, as `tell_storages` says it.
+pub fn are_as_left(
+    rt: &HostRuntime,
+    auditor: &Auditor,
+    desks: &Desks,
+    folder: &HeldFolder,
+) -> Result<bool, Fault>
+    requires ready { IsReady (audit_of auditor.now) }
+{
+    let name = folder.name.as_str();
+    if !are_nodes_as_left(rt, auditor, name)? {
+        return Ok(false);
+    }
+    are_own_as_left(rt, name, &desks.claims, &desks.departments)
+}
+
+/// Prints the digest of the storages of the nodes in the folder of this name, as it is shown.
 pub fn tell_digest(rt: &HostRuntime, asked: Asked, shown: &str, sum: &Sum) -> Result<(), Fault> {
     let digits = or_memory(sum_text(rt.alloc(), sum))?;
     let text = or_memory(format!(in rt.alloc(); "folder {shown} has digest {digits}"))?;

@@ -8,45 +8,32 @@ pub const FINDING: u8 = 1;
 
 /// Whether the verdict is a finding.
 pub fn is_finding(judged: &Judged) -> bool {
+    found_at(judged).is_some()
+}
+
+/// Whether it is in doubt what the run did for a line of its own at which it was stopped.
+pub fn is_own_doubt(judged: &Judged) -> bool {
+    matches!(judged.outcome, Outcome::StoppedInOwn(_))
+}
+
+/// Whether a run without a finding leaves something undecided: its script has no end, or its report has nothing.
+pub fn is_undecided(judged: &Judged) -> bool {
+    match judged.ending {
+        Ending::Script(_) | Ending::TooLong => true,
+        Ending::Done => judged.is_empty,
+    }
+}
+
+/// The line of the script at which something was found in the run, if something was.
+pub fn found_at(judged: &Judged) -> Option<u32> {
     match judged.outcome {
-        Outcome::Wrong(_) | Outcome::Forged(_) | Outcome::More(_, _) => true,
+        Outcome::Wrong(line) | Outcome::Forged(line) | Outcome::More(line, _) => Some(line),
         Outcome::Lawful(_)
         | Outcome::Stopped(_)
         | Outcome::StoppedInOwn(_)
         | Outcome::Unkept(_)
         | Outcome::Unread(_)
-        | Outcome::Memory => false,
-    }
-}
-
-/// The line of its own that the run was stopped at, if it was.
-pub fn own_stop_at(judged: &Judged) -> Option<u32> {
-    match judged.outcome {
-        Outcome::StoppedInOwn(line) => Some(line),
-        Outcome::Lawful(_)
-        | Outcome::Stopped(_)
-        | Outcome::Wrong(_)
-        | Outcome::Forged(_)
-        | Outcome::Unkept(_)
-        | Outcome::More(_, _)
-        | Outcome::Unread(_)
         | Outcome::Memory => None,
-    }
-}
-
-/// Whether the run was stopped at a line of its own.
-pub fn is_own_stop(judged: &Judged) -> bool {
-    own_stop_at(judged).is_some()
-}
-
-/// Whether a run without a finding leaves something undecided: its script has no end, its report has nothing, or it was stopped at a line of its own.
-pub fn is_undecided(judged: &Judged) -> bool {
-    if is_own_stop(judged) {
-        return true;
-    }
-    match judged.ending {
-        Ending::Script(_) | Ending::TooLong => true,
-        Ending::Done => judged.is_empty,
     }
 }
 

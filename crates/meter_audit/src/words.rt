@@ -119,18 +119,6 @@ pub fn want_owing(rt: &HostRuntime, name: &str, word: Word, asked: Asked) -> Res
     Err(Fault::ReplayAlone(or_memory(shown_text(rt.alloc(), name))?))
 }
 
-/// Refuses a run of this word if it goes not with a start from storages.
-pub fn want_judged(rt: &HostRuntime, name: &str, word: Word, has_start: bool) -> Result<(), Fault> {
-    if !has_start {
-        return Ok(());
-    }
-    match word {
-        Word::Claims => Err(Fault::FromClaims(or_memory(shown_text(rt.alloc(), name))?)),
-        Word::Departments => Err(Fault::FromDepartments(or_memory(shown_text(rt.alloc(), name))?)),
-        Word::Replay | Word::Manifest | Word::Statement => Ok(()),
-    }
-}
-
 /// Whether a run has lines of its own.
 pub fn have_own_lines(words: &[Word]) -> bool {
     for place in 0..words.len() {
