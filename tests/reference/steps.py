@@ -67,7 +67,7 @@ def is_in_doubt(word, event, answer, kept):
     """Whether it is in doubt what was done for an own line with this answer, of which the report has so many bytes."""
     prefix = answer[:kept].rstrip(b'\n')
     failures = [kind + b' ' + NODES[word] for kind in (b'power', b'fault')]
-    if word == 'departments' and not has_steps(word, event, answer):
+    if word == 'departments' and answer.startswith(b'quota '):
         return not prefix
     if not has_steps(word, event, answer):
         return False

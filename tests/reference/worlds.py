@@ -14,6 +14,10 @@ LINES = 1_000_000
 GRAMMAR = Grammar(EVENTS)
 
 
+class Forged(Exception):
+    """Bytes come from outside that bear a node's own code, and no run has sent or released them."""
+
+
 class World(Bench):
     """One state. `kept` has all nodes, `nodes` those that are on, `open` the commit of each node that is in doubt."""
 
@@ -24,10 +28,15 @@ class World(Bench):
         self.sent = self.released = frozenset()
         self.begin(b'')
 
-    def begin(self, rates_text):
+    def begin(self, rates_text, word='replay'):
         self.nodes, self.messages = {}, []
         self.day = self.rates = None
         self.rates_text = rates_text
+        self.word = word
+
+    def read_line(self, line):
+        """The event of a line of a run of this word."""
+        return GRAMMAR.read(line)
 
     def changed(self, **fields):
         world = copy.copy(self)
@@ -42,8 +51,10 @@ class World(Bench):
                      self.rates and sorted(self.rates.classes.items()), self.rates_text, self.messages, sorted(self.sent), sorted(self.released)))
 
     def outcomes(self, event):
-        """Each reply that may be given, with the world behind it."""
+        """Each answer that may be given, with the world behind it. None is in the place of an answer if the run may be stopped there without one."""
         name, *values = event
+        if self.is_forged(event):
+            raise Forged()
         try:
             if name == 'end':
                 return [('end', self)]
@@ -141,7 +152,7 @@ class World(Bench):
         return False
 
 
-def events_of(script):
+def events_of(script, read_line=GRAMMAR.read):
     """The events up to the first `end`, each with its line's number, and the line at which the script ends badly or None."""
     lines = script.split(b'\n')
     if lines[-1] == b'':
@@ -151,7 +162,7 @@ def events_of(script):
         if len(line) <= LONGEST and (line == b'' or line.startswith(b'#')):
             continue
         try:
-            events.append((number, GRAMMAR.read(line if len(line) <= LONGEST else b'')))
+            events.append((number, read_line(line if len(line) <= LONGEST else b'')))
         except BadLine:
             return events, number
         if events[-1][1][0] == 'end':
@@ -163,34 +174,51 @@ def distinct(worlds):
     return list({world.key(): world for world in worlds}.values()) if len(worlds) > 1 else worlds
 
 
-def judge_run(worlds, script, report, rates_text):
+def outcomes_of(worlds, event):
+    """Each outcome of an event in these worlds, and whether each of them comes to forged bytes."""
+    outcomes, forged = [], 0
+    for world in worlds:
+        try:
+            for text, after in world.outcomes(event):
+                outcomes.append((text if text is None else text.encode(), after))
+        except Forged:
+            forged += 1
+    return outcomes, forged == len(worlds)
+
+
+def stop_at(worlds, outcomes, rest):
+    """The worlds in which a run may be stopped at an event, of whose answer the report has the rest."""
+    if not rest:
+        return distinct(worlds + [world for _, world in outcomes])
+    return distinct([world for text, world in outcomes if text is not None and text.startswith(rest)])
+
+
+def judge_run(worlds, script, report, rates_text, word='replay'):
     """The verdict on a run, with a line's number for some, and the worlds behind it."""
     worlds = [copy.copy(world) for world in worlds]
     for world in worlds:
-        world.begin(rates_text)
-    *answers, front = report.split(b'\n')
-    events, bad_line = events_of(script)
-    for at, (number, event) in enumerate(events):
-        honest = [world for world in worlds if not world.is_forged(event)]
-        if not honest and (at < len(answers) or front):
-            return ('forged', number), []
-        outcomes = [outcome for world in honest for outcome in world.outcomes(event)]
-        if at == len(answers):
-            after = [world for text, world in outcomes if text.encode().startswith(front)]
-            if front and not after:
-                return ('wrong', number), []
-            return ('stopped', number), distinct(after if front else worlds + after)
-        worlds = distinct([world for text, world in outcomes if text.encode() == answers[at]])
-        if not worlds:
-            return ('wrong', number), []
-    if len(answers) > len(events) or front:
+        world.begin(rates_text, word)
+    events, bad_line = events_of(script, (worlds or [World()])[0].read_line)
+    place = 0
+    for number, event in events:
+        outcomes, is_forged = outcomes_of(worlds, event)
+        whole = [(text, world) for text, world in outcomes if text is not None and report.startswith(text + b'\n', place)]
+        if not whole:
+            after = stop_at(worlds, outcomes, report[place:])
+            if after:
+                return ('stopped', number), after
+            return ('forged' if is_forged else 'wrong', number), []
+        # No answer is the beginning of another one, so these are the same.
+        place += len(whole[0][0]) + 1
+        worlds = distinct([world for _, world in whole])
+    if place < len(report):
         return ('more', None), []
     return ('lawful', bad_line), worlds
 
 
-def judge(runs):
+def judge(runs, kind=World):
     """The verdicts on runs (script, report, rates text) over one folder that is blank at first, up to the first that isn't possible."""
-    worlds, verdicts = [World()], []
+    worlds, verdicts = [kind()], []
     for run in runs:
         verdict, worlds = judge_run(worlds, *run)
         verdicts.append(verdict)
