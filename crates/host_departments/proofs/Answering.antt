@@ -23,7 +23,8 @@ use Rattle.line_extensions.proofs.Stores.{Goes, Breaks, Ends, goes_rests, goes_s
 use Rattle.row_store.specs.Commits.{CommitsRow}
 use Rattle.host_departments.specs.Answers.{Asked, Answered, IsTold, IsCommitted, IsTakenIn, IsLimited, IsSent, IsAssignTold, ByQuota, IsAnswered, CellCommit, IsCutJob, AreDone, IsOwnTold, IsOwnCut, AreAnswered}
 use Rattle.host_departments.specs.Heard.{IsTaken}
-use Rattle.host_departments.specs.Courses.{Either, Follows, Says, ByFailed, Tries, Sends, Assigns, AssignsBy, SpentBy, Begins, Takes, TakesBy, Hears, GoesOn}
+use Rattle.host_departments.specs.Courses.{Follows, Says, ByFailed, Tries, Sends, Assigns, AssignsBy, SpentBy, Begins, Takes, TakesBy, Hears, GoesOn}
+use Rattle.host_departments.specs.Moves.{Either}
 use Rattle.host_departments.specs.DepartmentLines.{IsLine}
 use Rattle.host_departments.specs.DepartmentsExtension.{departments_desk}
 use Rattle.host_departments.specs.Kept.{rows_in}

@@ -31,7 +31,7 @@ use Rattle.script_replay.specs.Sides.{StepsBy}
 use Rattle.script_replay.specs.Throughout.{StandsFor}
 use Rattle.script_replay.proofs.Chains.{steps_on, stands_then, stands_after}
 use Rattle.host_departments.specs.Answers.{Answered, IsTold, IsCommitted, IsTakenIn, IsSent, IsAssignTold, ByQuota, IsAnswered, CellCommit, IsCutShort, AreDone, AreAnswered}
-use Rattle.host_departments.specs.Courses.{Either}
+use Rattle.host_departments.specs.Moves.{Either}
 use Rattle.host_departments.specs.Heard.{IsTaken, debit_postage, postage_sent}
 use Rattle.host_departments.specs.Holds.{AreBacked}
 use Rattle.host_departments.specs.Rows.{Rows, quota, spent, first_cell}

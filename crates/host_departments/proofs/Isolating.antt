@@ -8,7 +8,7 @@ use Rattle.node_turns.specs.Turns.{sent_in}
 use Rattle.node_turns.specs.declared.turn.Turn.{Turn}
 use Rattle.script_text.specs.Texts.{text_of}
 use Rattle.host_departments.specs.Answers.{Answered, IsTold, IsCommitted, IsQuotaTold, IsTakenIn, IsLimited, IsSent, IsAssignTold, ByQuota, IsAnswered}
-use Rattle.host_departments.specs.Courses.{Either}
+use Rattle.host_departments.specs.Moves.{Either}
 use Rattle.host_departments.specs.Heard.{IsTaken}
 use Rattle.host_departments.specs.Isolation.{IsLineOf, IsSameFor, IsSameHeard, AreSameHeard, AreIsolated}
 use Rattle.host_departments.specs.Rows.{Rows, row_in, quota, quota_in, spent, postage_at, postage_in, job_in, first_cell, Has, HasJobs}

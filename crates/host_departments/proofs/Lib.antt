@@ -17,3 +17,4 @@ pub mod Showing
 pub mod Cutting
 pub mod Running
 pub mod Isolating
+pub mod OneLine

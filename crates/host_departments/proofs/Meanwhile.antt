@@ -12,7 +12,8 @@ use Rattle.line_extensions.specs.SideTrace.{SideStep}
 use Rattle.line_extensions.specs.declared.extension.Next.{Next}
 use Rattle.line_extensions.proofs.Moving.{each_move}
 use Rattle.line_extensions.proofs.Stores.{Meanwhile, shown_still, shown_commit}
-use Rattle.host_departments.specs.Courses.{Either, Says, ByFailed, Tries, Assigns, AssignsBy, SpentBy, Begins, TakesBy, Hears, GoesOn}
+use Rattle.host_departments.specs.Courses.{Says, ByFailed, Tries, Assigns, AssignsBy, SpentBy, Begins, TakesBy, Hears, GoesOn}
+use Rattle.host_departments.specs.Moves.{Either}
 use Rattle.host_departments.specs.DepartmentsExtension.{departments_desk}
 use Rattle.host_departments.specs.Payload.{decoded, spelled}
 use Rattle.host_departments.specs.Rows.{quota, spent, first_cell}

@@ -15,7 +15,7 @@ use Rattle.line_extensions.specs.Trace.{StepRecord, Skipped, Did}
 use Rattle.line_extensions.specs.Events.{IsLineOf}
 use Rattle.line_extensions.specs.SideTrace.{SideStep, Plain, Own, Broken, steps_of}
 use Rattle.host_departments.specs.Answers.{Asked, Answered, IsTold, IsCommitted, IsTakenIn, IsSent, IsAssignTold, ByQuota, IsAnswered, CellCommit, IsCutShort, AreDone, AreAnswered}
-use Rattle.host_departments.specs.Courses.{Either}
+use Rattle.host_departments.specs.Moves.{Either}
 use Rattle.host_departments.specs.DepartmentLines.{IsLine}
 use Rattle.host_departments.specs.DepartmentsExtension.{departments_desk}
 use Rattle.std.specs.List.{AllByRecursion}

@@ -2,7 +2,7 @@
 use Rattle.std.proofs.Common.{◌≡◌, ◌+◌, ◌≤◌, ℕ, Bool, false, Option, Some, None, sym, subst, arith, true≢false}
 use Rattle.std.specs.Prelude.{nat_lt, IsSome, IfSome}
 use Rattle.std.proofs.lemmas.Bool.Decides.{nat_tests}
-use Rattle.host_departments.specs.Courses.{Either}
+use Rattle.host_departments.specs.Moves.{Either}
 use Rattle.host_departments.specs.Rows.{or_zero}
 
 -- what is left and what was spent is the quota

@@ -9,7 +9,7 @@ use Rattle.script_text.specs.Texts.{text_of}
 use Rattle.line_extensions.specs.Trace.{StepRecord, Skipped, Did}
 use Rattle.line_extensions.specs.SideTrace.{SideStep, Plain, Own, Broken}
 use Rattle.line_extensions.specs.Stops.{RowCommit}
-use Rattle.host_departments.specs.Courses.{Either}
+use Rattle.host_departments.specs.Moves.{Either}
 use Rattle.host_departments.specs.DepartmentLines.{IsLine}
 use Rattle.host_departments.specs.Heard.{IsTaken}
 use Rattle.host_departments.specs.Passes.{Passes}

@@ -10,6 +10,7 @@ pub mod Holds
 pub mod Index
 pub mod Isolation
 pub mod Kept
+pub mod Moves
 pub mod Passes
 pub mod Payload
 pub mod Rows

@@ -1,7 +1,6 @@
 -- What the checker and the bench did for a line is its answer.
 use Rattle.std.proofs.Common.{◌≡◌, ◌⊎◌, inl, inr, ℕ, ◌+◌, List, [], ◌∷◌, length, Option, Some, None, Bool, true, false, ◌==◌, refl, sym, ap, ◌∙◌, subst}
 use Rattle.std.specs.Prelude.{codes}
-use Rattle.std.proofs.lemmas.Option.{same_Some}
 use Rattle.bench_base.specs.declared.{events.Event.Event, events.Reply.Reply}
 use Rattle.bench_base.specs.Questions.{IsAccepted}
 use Rattle.node_turns.specs.declared.turn.Turn.{Turn}
@@ -12,7 +11,7 @@ use Rattle.line_extensions.specs.declared.{extension.Next.Next, extension.Next.T
 use Rattle.mail_manifest.specs.Answers.{IsTold, AreScanned, IsChecked, IsAnsweredOn, IsAnsweredBare, IsAnswered, AreAnswered}
 use Rattle.mail_manifest.specs.Causes.{Either, Finds}
 use Rattle.mail_manifest.specs.CheckerDesk.{checker_desk}
-use Rattle.mail_manifest.specs.Courses.{scan_of, yes_of, Answers, Scans, ByCause, BeginsOn, BeginsBare, BeginsWith, GoesBy, Scanned, GoesOn}
+use Rattle.mail_manifest.specs.Courses.{scan_of, yes_of, Answers, Scans, ByCause, BeginsOn, BeginsBare, BeginsWith}
 use Rattle.scan_laws.proofs.Accepting.{accepted_by}
 use Rattle.mail_manifest.specs.Listings.{Listing, opened, with_mark, code_of}
 use Rattle.mail_manifest.specs.Texts.{said_texts, open_text, piece_text, code_text, yes_text, no_piece_text}
@@ -20,6 +19,7 @@ use Rattle.mail_manifest.specs.View.{listing_of, said_of}
 use Rattle.mail_manifest.specs.declared.{checker.Checker.Checker, opening.ManifestLine.ManifestLine, opening.ManifestLine.TheVariants.Open, opening.ManifestLine.TheVariants.Piece, opening.ManifestLine.TheVariants.Code, opening.ManifestLine.TheVariants.Check, answer.Answer.Answer}
 use Rattle.mail_manifest.specs.declared.answer.Answer.TheVariants as answers
 use Rattle.mail_manifest.proofs.Judging.{either_by, either_any, yes_is_good}
+use Rattle.mail_manifest.proofs.OneMove.{goes_by}
 use Rattle.line_extensions.proofs.Wanting.{IsSay, step_event, ends_at}
 
 -- the next request, by its kind
@@ -59,19 +59,13 @@ module _ {B : Type 0} (Steps : B → B → StepRecord → Turn → Type 0) (told
 
   -- == the scans ==
 
-  -- what follows a scan of the piece
-  goes_by : (m : Listing) (number : ℕ) (k : Checker) (reply : Reply) (next : Next) (new : Checker) → said_of k ≡ answers.Scanning number → listing_of k ≡ Some m → GoesOn (said_of k) reply k next new → GoesBy m number reply next new
-  goes_by m number k reply next new waits here goes =
-      let scanned : Scanned number reply k next new = subst (λ (s : Answer). GoesOn s reply k next new) waits goes in
-      subst (λ (l : Listing). GoesBy l number reply next new) (same_Some scanned.listing m (sym scanned.here ∙ here)) scanned.goes
-
   scans_told : (m : Listing) (number : ℕ) (old new : World B Checker) (next : Next) (steps : List StepRecord) → Scans m number next old.desk → Asks checker_desk Steps old new next steps Say
       → AreScanned m number steps (said_texts (said_of new.desk)) × (listing_of new.desk ≡ Some m)
   scans_told m number old new next [] scans asks = absurd (no_step next _ scans.asks (subst (λ (x : Next). IsSay x) asks.0 tt))
   scans_told m number old new next (d ∷ rest) scans asks =
       let event : d.event ≡ scan_of m number = sym (ap (λ (n : Next). step_event d.event n) asks.2.asks) ∙ ap (λ (n : Next). step_event d.event n) scans.asks in
       let reply : d.reply ≡ asks.2.turn.reply = told old.scene asks.0.scene d asks.2.turn asks.2.did in
-      elim (goes_by m number old.desk asks.2.turn.reply asks.1 asks.0.desk scans.waits scans.leaves asks.2.goes) [
+      elim (goes_by listing_of said_of m number old.desk asks.2.turn.reply asks.1 asks.0.desk scans.waits scans.leaves asks.2.goes) [
         | inl did ↦ by_place event (accepted_by d.reply asks.2.turn.reply reply did.0) (number == length m.marks) did.1 (λ on. scans_told m (number + 1) asks.0 new asks.1 rest on asks.3)
         | inr other ↦
             let end = says_texts (answers.NoPiece number asks.2.turn.reply) (Some m) asks.0 new asks.1 rest other.1 asks.3 in (
@@ -93,7 +87,7 @@ module _ {B : Type 0} (Steps : B → B → StepRecord → Turn → Type 0) (told
   scans_no_stop : (m : Listing) (number : ℕ) (old new : World B Checker) (next : Next) (steps : List StepRecord) → Scans m number next old.desk → Asks checker_desk Steps old new next steps Stop → ⊥
   scans_no_stop m number old new next [] scans asks = no_stop next _ scans.asks (subst (λ (x : Next). IsStop x) asks.0 tt)
   scans_no_stop m number old new next (d ∷ rest) scans asks =
-      elim (goes_by m number old.desk asks.2.turn.reply asks.1 asks.0.desk scans.waits scans.leaves asks.2.goes) [
+      elim (goes_by listing_of said_of m number old.desk asks.2.turn.reply asks.1 asks.0.desk scans.waits scans.leaves asks.2.goes) [
         | inl did ↦ either_any (number == length m.marks) (λ last says. says_no_stop (yes_of m) (Some m) asks.0 new asks.1 rest says asks.3)
             (λ more on. scans_no_stop m (number + 1) asks.0 new asks.1 rest on asks.3) did.1
         | inr other ↦ says_no_stop (answers.NoPiece number asks.2.turn.reply) (Some m) asks.0 new asks.1 rest other.1 asks.3

@@ -57,6 +57,11 @@ other_text : (count total : ℕ) (text : List ℕ) → tenth text ≡ 110 → te
 other_text count total text at_n is =
     let at = sym at_n ∙ ap (λ (t : List ℕ). tenth t) (one_text text (yes_text count total) is) ∙ yes_tenth count total in omega (arith, at)
 
+-- nor does that of a check that ended at a piece
+pub piece_is_no_yes : (count total number : ℕ) (reply : Reply) → no_piece_text number reply ≡ yes_text count total → ⊥
+piece_is_no_yes count total number reply is =
+    let at = sym (piece_tenth number reply) ∙ ap (λ (t : List ℕ). tenth t) is ∙ yes_tenth count total in omega (arith, at)
+
 -- nor does one where no manifest was opened
 pub none_is_no_yes : (texts : List (List ℕ)) → texts ≡ codes "refused manifest none" ∷ [] → IsYes texts → ⊥
 none_is_no_yes texts told is =
@@ -112,6 +117,16 @@ module _ (m : Listing) where
         | inr wrong ↦ Coded (same_Some cause _ wrong.1)
       ])
       (λ other is. Counted (length m.marks) (same_Some cause _ is)) finds
+
+  -- so it has a text
+  text_by : (cause : Answer) → IsCause cause → (text : List ℕ) × (said_texts cause ≡ text ∷ [])
+  text_by cause (Counted n is) = (no_count_text n, ap (λ (s : Answer). said_texts s) is)
+  text_by cause (Coded is) = (codes "manifest no code", ap (λ (s : Answer). said_texts s) is)
+  text_by cause (Read n is) = (unread_text n, ap (λ (s : Answer). said_texts s) is)
+  text_by cause (Summed n is) = (no_total_text n, ap (λ (s : Answer). said_texts s) is)
+
+  pub cause_text : (code : List ℕ) (cause : Answer) → Finds m code (Some cause) → (text : List ℕ) × (said_texts cause ≡ text ∷ [])
+  cause_text code cause finds = text_by cause (cause_is code cause finds)
 
   not_yes : (count total : ℕ) (cause : Answer) → IsCause cause → said_texts cause ≡ yes_text count total ∷ [] → ⊥
   not_yes count total cause (Counted n is) same = other_text count total (no_count_text n) (count_tenth n) (sym (ap (λ (s : Answer). said_texts s) is) ∙ same)

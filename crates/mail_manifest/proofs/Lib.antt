@@ -1,7 +1,10 @@
 mod Answering
 mod Holding
-mod Judging
+pub mod Judging
 mod Marks
 mod Nothing
+pub mod OneLine
+pub mod OneMove
+pub mod PieceTexts
 mod Reading
 mod Running

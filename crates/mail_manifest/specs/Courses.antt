@@ -1,91 +1,59 @@
--- What the checker does for an own line: at first, and after each scan.
-use Rattle.std.specs.Prelude.{◌≡◌, ◌⊎◌, ℕ, ◌+◌, ◌-◌, List, length, Option, Some, None, ◌==◌}
-use Rattle.bench_base.specs.declared.{events.Event.Event, events.Reply.Reply}
-use Rattle.bench_base.specs.declared.events.Event.TheVariants as ev
-use Rattle.bench_base.specs.Questions.{IsAccepted}
-use Rattle.line_extensions.specs.declared.{extension.Next.Next, extension.Next.TheVariants.Step, extension.Next.TheVariants.Say}
-use Rattle.mail_manifest.specs.Causes.{Either, Finds}
-use Rattle.mail_manifest.specs.Listings.{Listing, opened, with_mark, mark_at, code_of}
+-- What the checker does for an own line: at first, and after each scan. Its moves are those of Moves, by its manifest and what it said.
+use Rattle.std.specs.Prelude.{ℕ, List, Option}
+use Rattle.bench_base.specs.declared.events.Reply.{Reply}
+use Rattle.line_extensions.specs.declared.extension.Next.{Next}
+use Rattle.mail_manifest.specs.Listings.{Listing}
+use Rattle.mail_manifest.specs.Moves as moves
+pub use Rattle.mail_manifest.specs.Moves.{scan_of, yes_of}
 use Rattle.mail_manifest.specs.View.{listing_of, said_of}
-use Rattle.mail_manifest.specs.declared.{checker.Checker.Checker, opening.ManifestLine.ManifestLine, opening.ManifestLine.TheVariants.Open, opening.ManifestLine.TheVariants.Piece, opening.ManifestLine.TheVariants.Code, opening.ManifestLine.TheVariants.Check, answer.Answer.Answer}
-use Rattle.mail_manifest.specs.declared.answer.Answer.TheVariants as answers
-
--- the scan of the piece of this number, counted from 1: of its mark, under the manifest's first number and those that follow it
-abbrev pub scan_of : Listing → ℕ → Event
-scan_of m number = ev.ScanHex (m.opening.first + (number - 1)) (mark_at m (number - 1))
-
-abbrev pub yes_of : Listing → Answer
-yes_of m = answers.Yes m.opening.count m.opening.total
+use Rattle.mail_manifest.specs.declared.{checker.Checker.Checker, opening.ManifestLine.ManifestLine, answer.Answer.Answer}
 
 -- it answers so, and the manifest is this one then
-pub record Answers (answer : Answer) (after : Option Listing) (next : Next) (new : Checker) : Type 0 where
-  pub ends : next ≡ Say
-  pub answers : said_of new ≡ answer
-  pub leaves : listing_of new ≡ after
+abbrev pub Answers : Answer → Option Listing → Next → Checker → Type 0
+Answers answer after next new = moves.Answers listing_of said_of answer after next new
 
 -- it asks for the scan of this piece
-pub record Scans (m : Listing) (number : ℕ) (next : Next) (new : Checker) : Type 0 where
-  pub asks : next ≡ Step (scan_of m number)
-  pub waits : said_of new ≡ answers.Scanning number
-  pub leaves : listing_of new ≡ Some m
+abbrev pub Scans : Listing → ℕ → Next → Checker → Type 0
+Scans m number next new = moves.Scans listing_of said_of m number next new
 
 -- so it does for the manifest that it has
-pub record Scanning (number : ℕ) (old : Checker) (next : Next) (new : Checker) : Type 0 where
-  pub listing : Listing
-  pub here : listing_of old ≡ Some listing
-  pub scans : Scans listing number next new
+abbrev pub Scanning : ℕ → Checker → Next → Checker → Type 0
+Scanning number old next new = moves.Scanning listing_of said_of number old next new
 
 -- == at first ==
 
 abbrev pub Adds : Listing → List ℕ → Next → Checker → Type 0
-Adds m mark next new =
-    Either (length m.marks == m.opening.count) (Answers answers.Full (Some m) next new)
-    (Answers (answers.Piece (length m.marks + 1)) (Some (with_mark m mark)) next new)
+Adds m mark next new = moves.Adds listing_of said_of m mark next new
 
 -- refused for the first cause that there is; otherwise its pieces are scanned
 abbrev pub ByCause : Listing → Option Answer → Next → Checker → Type 0
-ByCause m (Some cause) next new = Answers cause (Some m) next new
-ByCause m None next new = Scans m 1 next new
+ByCause m cause next new = moves.ByCause listing_of said_of m cause next new
 
-pub record Checks (m : Listing) (code : List ℕ) (next : Next) (new : Checker) : Type 0 where
-  pub cause : Option Answer
-  pub finds : Finds m code cause
-  pub does : ByCause m cause next new
+abbrev pub Checks : Listing → List ℕ → Next → Checker → Type 0
+Checks m code next new = moves.Checks listing_of said_of m code next new
 
 -- a line about the manifest that was opened
 abbrev pub BeginsOn : Listing → ManifestLine → Next → Checker → Type 0
-BeginsOn m (Open o) next new = Answers (answers.Opened o.count) (Some (opened o)) next new
-BeginsOn m (Piece mark) next new = Adds m mark next new
-BeginsOn m Code next new = Answers (answers.Code (code_of m)) (Some m) next new
-BeginsOn m (Check code) next new = Checks m code next new
+BeginsOn m own next new = moves.BeginsOn listing_of said_of m own next new
 
 -- a line where none was opened
 abbrev pub BeginsBare : ManifestLine → Next → Checker → Type 0
-BeginsBare (Open o) next new = Answers (answers.Opened o.count) (Some (opened o)) next new
-BeginsBare (Piece mark) next new = Answers answers.NoManifest None next new
-BeginsBare Code next new = Answers answers.NoManifest None next new
-BeginsBare (Check code) next new = Answers answers.NoManifest None next new
+BeginsBare own next new = moves.BeginsBare listing_of said_of own next new
 
 abbrev pub BeginsWith : Option Listing → ManifestLine → Next → Checker → Type 0
-BeginsWith (Some m) own next new = BeginsOn m own next new
-BeginsWith None own next new = BeginsBare own next new
+BeginsWith m own next new = moves.BeginsWith listing_of said_of m own next new
 
 abbrev pub Begins : Checker → ManifestLine → Next → Checker → Type 0
-Begins old own next new = BeginsWith (listing_of old) own next new
+Begins old own next new = moves.Begins listing_of said_of old own next new
 
 -- == after a scan ==
 
 -- if this piece was accepted the next one is scanned; after the last one the manifest is good
 abbrev pub GoesBy : Listing → ℕ → Reply → Next → Checker → Type 0
-GoesBy m number reply next new =
-    (IsAccepted reply × Either (number == length m.marks) (Answers (yes_of m) (Some m) next new) (Scans m (number + 1) next new))
-    ⊎ ((IsAccepted reply → ⊥) × Answers (answers.NoPiece number reply) (Some m) next new)
+GoesBy m number reply next new = moves.GoesBy listing_of said_of m number reply next new
 
-pub record Scanned (number : ℕ) (reply : Reply) (old : Checker) (next : Next) (new : Checker) : Type 0 where
-  pub listing : Listing
-  pub here : listing_of old ≡ Some listing
-  pub goes : GoesBy listing number reply next new
+abbrev pub Scanned : ℕ → Reply → Checker → Next → Checker → Type 0
+Scanned number reply old next new = moves.Scanned listing_of said_of number reply old next new
 
 abbrev pub GoesOn : Answer → Reply → Checker → Next → Checker → Type 0
-GoesOn (answers.Scanning number) reply old next new = Scanned number reply old next new
-GoesOn _ reply old next new = (next ≡ Say) × (new ≡ old)
+GoesOn answer reply old next new = moves.GoesOn listing_of said_of answer reply old next new

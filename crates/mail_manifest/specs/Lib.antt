@@ -8,6 +8,7 @@ pub mod Held
 pub mod Holds
 pub mod Listings
 pub mod ManifestLines
+pub mod Moves
 pub mod Ran
 pub mod Texts
 pub mod View

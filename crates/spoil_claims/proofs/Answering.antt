@@ -17,7 +17,7 @@ use Rattle.script_text.specs.Texts.{text_of}
 use Rattle.line_extensions.specs.Trace.{StepRecord, Skipped, Did}
 use Rattle.line_extensions.specs.Desks.{World, world, Asks, Does}
 use Rattle.line_extensions.specs.SideTrace.{SideStep, Plain, Own, Broken}
-use Rattle.line_extensions.specs.declared.{extension.Extension.Ghosts, extension.Next.Next, extension.Next.TheVariants.Say, extension.Next.TheVariants.Stop}
+use Rattle.line_extensions.specs.declared.{extension.Next.Next, extension.Next.TheVariants.Say, extension.Next.TheVariants.Stop}
 use Rattle.row_store.specs.Commits.{CommitsRow}
 use Rattle.row_store.specs.Seen.{seen_in}
 use Rattle.spoil_claims.specs.Answers.{IsTold, IsCreditedNow, IsScanned, IsAgain, IsNewTold, IsClaimTold, IsAnswered, IsCutCredit, IsNewCut, IsClaimCut, IsCutShort, AreAnswered}
@@ -34,12 +34,12 @@ use Rattle.spoil_claims.specs.declared.answer.Answer.TheVariants as answers
 use Rattle.spoil_claims.proofs.Keeping.{rows_long, kept_inside, put_claim}
 use Rattle.line_extensions.proofs.Wanting.{no_step, no_say, step_event, ends_at}
 
-either_by : {P Q X Y : Type 0} (b : Bool) → (P → X) → (Q → Y) → Either b P Q → Either b X Y
+pub either_by : {P Q X Y : Type 0} (b : Bool) → (P → X) → (Q → Y) → Either b P Q → Either b X Y
 either_by true f h either = f either
 either_by false f h either = h either
 
 -- how a commit came out, by the claims before and after it
-data CameOut (x : ClaimRow) (meant : Answer) (then : Next) (rows after : Claims) (now : Answer) (next : Next) : Type 0 where
+pub data CameOut (x : ClaimRow) (meant : Answer) (then : Next) (rows after : Claims) (now : Answer) (next : Next) : Type 0 where
   Done_ : is_worn rows (x.claim - 1) ≡ false → now ≡ meant → next ≡ then → after ≡ put rows (x.claim - 1) x → CameOut x meant then rows after now next
   Worn_ : is_worn rows (x.claim - 1) ≡ true → now ≡ answers.Worn → next ≡ Say → after ≡ rows → CameOut x meant then rows after now next
   Broke : next ≡ Stop → after ≡ rows → CameOut x meant then rows after now next
@@ -48,7 +48,7 @@ module _ {N : Type 0} {g : nv.Ghosts N} where
   pub rests_rows : (old new : Desk N g) → Rests old new → rows_of new ≡ rows_of old
   rests_rows old new rests = ap (λ (room : Room 73). seen_in decoded (cells_of room) (kept_in room)) rests.room
 
-  came_out : (x : ClaimRow) (meant : Answer) (then : Next) (old : Desk N g) (next : Next) (new : Desk N g) (result : Result (Unit {0}) StoreFail)
+  pub came_out : (x : ClaimRow) (meant : Answer) (then : Next) (old : Desk N g) (next : Next) (new : Desk N g) (result : Result (Unit {0}) StoreFail)
       → CommitsRow g.tells decoded spelled 73 (x.claim - 1) x (store_of old) (store_of new) result → Follows result meant then (said_of new) next
       → CameOut x meant then (rows_of old) (rows_of new) (said_of new) next
   came_out x meant then old next new (Ok u) did follows =
@@ -58,7 +58,7 @@ module _ {N : Type 0} {g : nv.Ghosts N} where
   came_out x meant then old next new (Err fail.Fault) did follows = Broke follows did.stays
   came_out x meant then old next new (Err fail.Failed) did follows = absurd (did.not_failed refl)
 
-  tried : (b : Bool) (x : ClaimRow) (meant : Answer) (then : Next) (old : Desk N g) (next : Next) (new : Desk N g) → ByFailed b x meant then old next new
+  pub tried : (b : Bool) (x : ClaimRow) (meant : Answer) (then : Next) (old : Desk N g) (next : Next) (new : Desk N g) → ByFailed b x meant then old next new
       → CameOut x meant then (rows_of old) (rows_of new) (said_of new) next
   tried true x meant then old next new did = Broke did.0 (rests_rows old new did.1)
   tried false x meant then old next new did = came_out x meant then old next new did.result did.commits did.follows

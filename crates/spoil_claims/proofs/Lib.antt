@@ -1,4 +1,4 @@
-mod Answering
+pub mod Answering
 mod Backing
 mod Blank
 mod Following
@@ -6,6 +6,6 @@ mod Holding
 mod Keeping
 mod Meanwhile
 mod Payloads
-mod Reading
+pub mod Reading
 mod Running
 mod Stopping

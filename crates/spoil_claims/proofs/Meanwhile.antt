@@ -12,7 +12,7 @@ use Rattle.line_extensions.proofs.Moving.{each_move}
 use Rattle.line_extensions.proofs.Stores.{shown_still, shown_commit}
 use Rattle.spoil_claims.specs.Claims.{kept, last_claim, credits}
 use Rattle.spoil_claims.specs.ClaimsDesk.{claims_desk}
-use Rattle.spoil_claims.specs.Courses.{Either, row_for, as_credited, scan_of, Says, ByFailed, ByKept, Begins, Credited, Scanned, GoesOn}
+use Rattle.spoil_claims.specs.Courses.{Either, row_for, as_credited, scan_of, Says, ByFailed, ByKept, Begins, Scanned, GoesOn}
 use Rattle.spoil_claims.specs.Payload.{decoded, spelled}
 use Rattle.spoil_claims.specs.Storage.{ShownMeanwhile}
 use Rattle.spoil_claims.specs.View.{said_of, has_failed, rows_of, view_of, Rests}

@@ -1,5 +1,5 @@
 -- The lines of the desk, and the words that they are read from.
-use Rattle.std.proofs.Common.{◌≡◌, inl, inr, ℕ, ◌<◌, List, [], ◌∷◌, length, get_or, Option, Some, None, refl, sym, subst, ◌∙◌, ap, arith}
+use Rattle.std.proofs.Common.{◌≡◌, inl, inr, ℕ, ◌<◌, ◌^◌, List, [], ◌∷◌, length, get_or, Option, Some, None, refl, sym, subst, ◌∙◌, ap, arith}
 use Rattle.std.specs.Prelude.{codes, decimal, IfNone, IfSome, IsTrue, nat_lt}
 use Rattle.std.proofs.lemmas.Bool.Decides.{nat_tests}
 use Rattle.bench_base.specs.Questions.{IsScanUnder}
@@ -11,7 +11,7 @@ use Rattle.bench_base.specs.declared.events.Event.TheVariants as ev
 use Rattle.script_text.specs.Grammar.{Spells}
 use Rattle.script_words.specs.Words.{words_in, hex_word, given_word}
 use Rattle.script_text.proofs.EachEvent.{words_spelled, one_event_of}
-use Rattle.script_text.proofs.ReadBack.{given_in, given_again, given_is}
+use Rattle.script_text.proofs.ReadBack.{number_in, hex_in, given_in, word_again, hex_again, given_again, given_is}
 use Rattle.line_extensions.specs.Events.{IsLineOf}
 use Rattle.spoil_claims.specs.ClaimLines.{IsClaim, IsClaimLine, IsScan}
 use Rattle.spoil_claims.specs.declared.{claim.ClaimLine.ClaimLine, claim.ClaimLine.TheVariants.Claim, claim.ClaimLine.TheVariants.Credits, claim.ClaimLine.TheVariants.Reserved}
@@ -131,3 +131,34 @@ module _ (line word rest : List ℕ) (split : words_in line ≡ word ∷ words_i
   others_none no_claims no_credits no_scan (Claim c w mark) here = no_claims (only_word line word (words_in rest) split (Claim c w mark) here)
   others_none no_claims no_credits no_scan (Credits w) here = no_credits (only_word line word (words_in rest) split (Credits w) here)
   others_none no_claims no_credits no_scan Reserved here = no_scan (only_word line word (words_in rest) split Reserved here) here
+
+-- == one line of the desk at most ==
+
+one_decimal : (c d : ℕ) → c < 2 ^ 32 → d < 2 ^ 32 → decimal c ≡ decimal d → c ≡ d
+one_decimal c d short short' same = sym (word_again c short) ∙ ap (λ (w : List ℕ). number_in w) same ∙ word_again d short'
+
+one_hex : (x y : List ℕ) → IsBytes x → IsBytes y → hex_word x ≡ hex_word y → x ≡ y
+one_hex x y bytes bytes' same = sym (hex_again x bytes) ∙ ap (λ (w : List ℕ). hex_in w) same ∙ hex_again y bytes'
+
+one_claim : (c d w v : ℕ) (x y : List ℕ) → c ≡ d → w ≡ v → x ≡ y → Claim c w x ≡ Claim d v y
+one_claim c d w v x y number customer mark = cc
+
+-- a line is one line of the desk at most
+pub one_own : (own other : ClaimLine) (line : List ℕ) → IsClaimLine own line → IsClaimLine other line → own ≡ other
+one_own (Claim c w x) (Claim d v y) line is too =
+    let two : codes "claim" ∷ decimal c ∷ decimal w ∷ hex_word x ∷ [] ≡ codes "claim" ∷ decimal d ∷ decimal v ∷ hex_word y ∷ [] = sym is.1 ∙ too.1 in
+    let number : decimal c ≡ decimal d = ap (λ (ws : List (List ℕ)). get_or ws 1 []) two in
+    let customer : decimal w ≡ decimal v = ap (λ (ws : List (List ℕ)). get_or ws 2 []) two in
+    let mark : hex_word x ≡ hex_word y = ap (λ (ws : List (List ℕ)). get_or ws 3 []) two in
+    one_claim c d w v x y (one_decimal c d is.0.word too.0.word number)
+    (one_decimal w v (omega (arith, is.0.customer.1)) (omega (arith, too.0.customer.1)) customer) (one_hex x y is.0.bytes too.0.bytes mark)
+one_own (Claim c w x) (Credits v) line is too = absurd (credits_differ (only_word line (codes "claim") _ is.1 (Credits v) too))
+one_own (Claim c w x) Reserved line is too = absurd (scan_differs (only_word line (codes "claim") _ is.1 Reserved too))
+one_own (Credits w) (Claim d v y) line is too = absurd (credits_differ (only_word line (codes "claim") _ too.1 (Credits w) is))
+one_own (Credits w) (Credits v) line is too =
+    let two : codes "credits" ∷ decimal w ∷ [] ≡ codes "credits" ∷ decimal v ∷ [] = sym is.1 ∙ too.1 in
+    ap Credits (one_decimal w v (omega (arith, is.0.1)) (omega (arith, too.0.1)) (ap (λ (ws : List (List ℕ)). get_or ws 1 []) two))
+one_own (Credits w) Reserved line is too = absurd (scan_credits_differ (only_word line (codes "credits") _ is.1 Reserved too))
+one_own Reserved (Claim d v y) line is too = absurd (scan_differs (only_word line (codes "claim") _ too.1 Reserved is))
+one_own Reserved (Credits v) line is too = absurd (scan_credits_differ (only_word line (codes "credits") _ too.1 Reserved is))
+one_own Reserved Reserved line is too = refl

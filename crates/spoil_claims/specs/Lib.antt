@@ -7,6 +7,7 @@ pub mod Courses
 pub mod Follows
 pub mod Fresh
 pub mod Holds
+pub mod Moves
 pub mod Payload
 pub mod Ran
 pub mod Storage
