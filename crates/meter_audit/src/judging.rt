@@ -102,7 +102,7 @@ fn outcome_of(verdict: SideVerdict) -> Outcome {
         SideVerdict::Lawful(ending) => Outcome::Lawful(ending),
         SideVerdict::Stopped(line) => Outcome::Stopped(line),
         SideVerdict::StoppedInOwn(line) | SideVerdict::InDoubt(line) => Outcome::StoppedInOwn(line),
-        SideVerdict::Wrong(line) => Outcome::Wrong(line),
+        SideVerdict::Wrong(line) | SideVerdict::PastReach(line) => Outcome::Wrong(line),
         SideVerdict::Forged(line) => Outcome::Forged(line),
         SideVerdict::Unkept(line) => Outcome::Unkept(line),
         SideVerdict::More(line, ending) => Outcome::More(line, ending),

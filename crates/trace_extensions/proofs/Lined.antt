@@ -1,8 +1,9 @@
 -- What became of one line of an audit.
-use Rattle.std.proofs.Common.{◌≡◌, ◌≢◌, ◌⊎◌, inl, inr, ℕ, List, [], flat_map, Option, Some, None, IfNone, IfSome, refl, sym, ap, subst}
+use Rattle.std.proofs.Common.{◌≡◌, ◌≢◌, ◌⊎◌, inl, inr, ℕ, List, [], ◌++◌, flat_map, Option, Some, None, IfNone, IfSome, refl, sym, ap, subst}
 use Rattle.std.proofs.KnownBytes.{Appends-nil, Consumes-nil}
 use Rattle.std.specs.Io.KnownBytes.{Consumes, IsAtEnd}
-use Rattle.bench_base.specs.declared.events.Event.{Event}
+use Rattle.std.specs.List.{AllByRecursion}
+use Rattle.bench_base.specs.declared.{events.Event.Event, events.Reply.Reply}
 use Rattle.bench_base.specs.declared.events.Event.TheVariants as ev
 use Rattle.bench_base.specs.Events.{IsWholeEvent}
 use Rattle.bench_base.specs.Ledger.{Ledger}
@@ -10,22 +11,28 @@ use Rattle.ledger_moves.specs.Tariffs.{Tariff}
 use Rattle.ledger_moves.specs.Histories.{moves}
 use Rattle.node_turns.specs.declared.turn.Turn.{Turn}
 use Rattle.script_text.specs.Grammar.{Spells, IsSkipped}
-use Rattle.line_runs.specs.Lines.{ended}
+use Rattle.line_runs.specs.Lines.{IsOneLine, ended}
 use Rattle.line_runs.specs.Turns.{Reported, LineEnd}
 use Rattle.line_runs.specs.declared.status.Status.TheVariants as status
 use Rattle.line_runs.specs.declared.{status.SideStatus.SideStatus, status.SideStatus.TheVariants.Run, status.SideStatus.TheVariants.Stopped}
-use Rattle.line_extensions.specs.Desks.{world}
+use Rattle.line_extensions.specs.Trace.{StepRecord}
+use Rattle.line_extensions.specs.Desks.{World, world, DidOwn}
 use Rattle.line_extensions.specs.Events.{IsLineOf}
-use Rattle.line_extensions.specs.Wants.{IsEvent}
-use Rattle.line_extensions.specs.declared.{extension.Extension.Ghosts, extension.Next.Next, extension.Next.TheVariants.Say}
+use Rattle.line_extensions.specs.SideTrace.{SideStep}
+use Rattle.line_extensions.specs.Wants.{IsAlone, IsEvent}
+use Rattle.line_extensions.specs.declared.{extension.Extension.Ghosts, extension.Next.Next, extension.Next.TheVariants.Say, extension.Next.TheVariants.Stop}
 use Rattle.script_replay.specs.Trace.{ledger_by}
 use Rattle.trace_bench.specs.Seeing.{Audit, Sees, keeps}
 use Rattle.trace_bench.specs.Stopping.{IsPrefixOf}
-use Rattle.trace_extensions.specs.Places.{place, turn_at}
-use Rattle.trace_extensions.specs.Steps.{AuditWorld, audit_world, IsStop, Passed, Heard, Own, Begun, Ended, audit_lines}
+use Rattle.trace_extensions.specs.Exact.{EachReply, HasNext, MayBe, EachMayBe, MayAnswer, IsMet}
+use Rattle.trace_extensions.specs.Fits.{IsOpen, IsText}
+use Rattle.trace_extensions.specs.Models.{Model, by_model, IsModelOf, IsDetermined, TellsFailures}
+use Rattle.trace_extensions.specs.Places.{Place, place, turn_at, MayStep}
+use Rattle.trace_extensions.specs.Steps.{AuditWorld, audit_world, IsStop, IsKnown, Passed, Heard, Own, Begun, Ended, audit_lines}
 use Rattle.trace_extensions.specs.Takes.{AtEachSeen, TakesLine, EndsWithin}
 use Rattle.trace_extensions.specs.Worlds.{AuditLeaves, AskedSo, DidAudit, LeftSo, all_asked, one_begun, ReadsInOwn}
 use Rattle.trace_extensions.specs.Stops.{LeftAt, event_begun, none_begun, own_done, own_begun}
+use Rattle.trace_extensions.proofs.OnlyLines.{OwnMayBe, if_skipped, if_passed, if_own, met_event}
 use Rattle.trace_extensions.specs.declared.papers.SideVerdict.{SideVerdict}
 use Rattle.trace_extensions.specs.declared.papers.SideVerdict.TheVariants as verdict
 
@@ -40,22 +47,31 @@ is_stop (verdict.StoppedInOwn n) = inl (n, inr refl)
 is_stop (verdict.Wrong m) = inr (neither (verdict.Wrong m) (λ n is. absurd (cc is)) (λ n is. absurd (cc is)))
 is_stop (verdict.Forged m) = inr (neither (verdict.Forged m) (λ n is. absurd (cc is)) (λ n is. absurd (cc is)))
 is_stop (verdict.Unkept m) = inr (neither (verdict.Unkept m) (λ n is. absurd (cc is)) (λ n is. absurd (cc is)))
+is_stop (verdict.PastReach m) = inr (neither (verdict.PastReach m) (λ n is. absurd (cc is)) (λ n is. absurd (cc is)))
 is_stop (verdict.InDoubt m) = inr (neither (verdict.InDoubt m) (λ n is. absurd (cc is)) (λ n is. absurd (cc is)))
 is_stop (verdict.More m end) = inr (neither (verdict.More m end) (λ n is. absurd (cc is)) (λ n is. absurd (cc is)))
 is_stop (verdict.Lawful end) = inr (neither (verdict.Lawful end) (λ n is. absurd (cc is)) (λ n is. absurd (cc is)))
 is_stop (verdict.Unread input) = inr (neither (verdict.Unread input) (λ n is. absurd (cc is)) (λ n is. absurd (cc is)))
 is_stop verdict.Memory = inr (neither verdict.Memory (λ n is. absurd (cc is)) (λ n is. absurd (cc is)))
 
-module _ {K T : Type 0} (k : Ghosts K T) (number : ℕ) (line : List ℕ) where
+module _ {K T : Type 0} (k : Ghosts K T) {V : Type 0} (view : K → V) (m : Model V) (modelled : IsModelOf k view m) (det : IsDetermined m) (alone : (own : k.Own) (line : List ℕ) → k.IsOwn own line → IsAlone line)
+    (number : ℕ) (line : List ℕ) where
   abbrev pub End : Option SideStatus → AuditWorld K → AuditWorld K → Option (List ℕ) → Option (List ℕ) → Type 0
-  End outcome old new taken0 taken1 = LineEnd (audit_lines k) (DidAudit k) AuditLeaves number line outcome old new taken0 taken1
+  End outcome old new taken0 taken1 = LineEnd (audit_lines k) (DidAudit k view m) AuditLeaves number line outcome old new taken0 taken1
 
   pub skipped : (w : AuditWorld K) (taken : Option (List ℕ)) → IsSkipped line → End None w w taken taken
   skipped w taken is = LineEnd.did (record {
     trace_step = Passed line;
     line_is = refl;
     is = is;
-    did = record { kept = refl; took = (w, Consumes-nil w.report, refl); may = λ τ H texts history sees. record { history = history; sees = sees; left = refl; desk = refl } };
+    did = record {
+      kept = refl;
+      took = (w, Consumes-nil w.report, refl);
+      may = λ τ H texts history sees. record { history = history; sees = sees; left = refl; desk = refl };
+      only = λ τ H texts history sees mid told b may.
+          let so = if_skipped k view m modelled det alone τ (world (place H w.rates) (view w.desk)) mid line w.report told is b may in
+          (subst (λ (at : World Place V). IsMet view τ w.audit w.rates w.desk at) (sym so.0) (record { history = history; sees = sees; left = refl; kept = refl }), so.1);
+    };
     reported = (tt, Appends-nil taken);
   })
 
@@ -64,9 +80,14 @@ module _ {K T : Type 0} (k : Ghosts K T) (number : ℕ) (line : List ℕ) where
   EndsAt old new = (told : List ℕ) × Consumes old.report new.report told × IsAtEnd new.report
       × AtEachSeen old.audit (λ τ H. LeftAt k τ (world (place H old.rates) old.desk) line told new.audit new.desk)
 
+  -- whatever may have been done for the line, the verdict leaves it open
+  abbrev pub Missed : AuditWorld K → AuditWorld K → Type 0
+  Missed old new = AtEachSeen old.audit (λ τ H. EachMayBe m τ (world (place H old.rates) (view old.desk)) line old.report (λ mid told. IsOpen new.verdict))
+
   -- the audit ended
-  pub ends : (old new : AuditWorld K) (taken : Option (List ℕ)) → keeps new.audit ≡ keeps old.audit → (IsStop new → EndsAt old new) → End (Some Stopped) old new taken taken
-  ends old new taken kept stops = by (is_stop new.verdict)
+  pub ends : (old new : AuditWorld K) (taken : Option (List ℕ)) → keeps new.audit ≡ keeps old.audit → IsOpen new.verdict ⊎ IsKnown k.IsOwn line → Missed old new → (IsStop new → EndsAt old new)
+      → End (Some Stopped) old new taken taken
+  ends old new taken kept known missed stops = by (is_stop new.verdict)
     where
       by : ((n : ℕ) × ((new.verdict ≡ verdict.Stopped n) ⊎ (new.verdict ≡ verdict.StoppedInOwn n))) ⊎ (((n : ℕ) × ((new.verdict ≡ verdict.Stopped n) ⊎ (new.verdict ≡ verdict.StoppedInOwn n))) → ⊥)
           → End (Some Stopped) old new taken taken
@@ -75,22 +96,22 @@ module _ {K T : Type 0} (k : Ghosts K T) (number : ℕ) (line : List ℕ) where
           LineEnd.did (record {
             trace_step = Begun line at.0 new;
             line_is = refl;
-            is = tt;
-            did = record { kept = kept; took = (at.1, at.2, refl); may = λ τ H texts history sees. (history, at.3 τ H texts history sees) };
+            is = known;
+            did = record { kept = kept; took = (at.1, at.2, refl); may = λ τ H texts history sees. (history, at.3 τ H texts history sees); only = missed };
             reported = (tt, refl);
           })
       by (inr none) = LineEnd.did (record {
         trace_step = Ended line new;
         line_is = refl;
-        is = none;
-        did = record { kept = kept; took = refl; may = λ τ H texts history sees. tt };
+        is = (none, known);
+        did = record { kept = kept; took = refl; may = λ τ H texts history sees. tt; only = missed };
         reported = (tt, refl);
       })
 
   -- no stop is said
-  pub ends_without : (old new : AuditWorld K) (taken : Option (List ℕ)) → keeps new.audit ≡ keeps old.audit → ((n : ℕ) → new.verdict ≡ verdict.Stopped n → ⊥)
+  pub ends_without : (old new : AuditWorld K) (taken : Option (List ℕ)) → keeps new.audit ≡ keeps old.audit → IsOpen new.verdict → ((n : ℕ) → new.verdict ≡ verdict.Stopped n → ⊥)
       → ((n : ℕ) → new.verdict ≡ verdict.StoppedInOwn n → ⊥) → End (Some Stopped) old new taken taken
-  ends_without old new taken kept none own = ends old new taken kept by
+  ends_without old new taken kept is_open none own = ends old new taken kept (inl is_open) (λ τ H texts history sees mid told b may. is_open) by
     where
       by : IsStop new → EndsAt old new
       by (n, inl is) = absurd (none n is)
@@ -99,8 +120,11 @@ module _ {K T : Type 0} (k : Ghosts K T) (number : ℕ) (line : List ℕ) where
   -- the answer to an event was not taken
   pub untaken : (old new : AuditWorld K) (taken : Option (List ℕ)) (e : Event) → keeps new.audit ≡ keeps old.audit → IsLineOf e line → k.Passes old.desk line → new.desk ≡ old.desk
       → ((n : ℕ) → new.verdict ≡ verdict.Stopped n → EndsWithin e old.rates old.audit new.audit old.report new.report) → ((n : ℕ) → new.verdict ≡ verdict.StoppedInOwn n → ⊥)
-      → End (Some Stopped) old new taken taken
-  untaken old new taken e kept is passes same within own = ends old new taken kept by
+      → EachReply e old.rates old.audit (λ text. (told : List ℕ) × HasNext old.report text told) (IsOpen new.verdict) → End (Some Stopped) old new taken taken
+  untaken old new taken e kept is passes same within own missed = ends old new taken kept (inr (inl (e, is)))
+      (λ τ H texts history sees mid told b may.
+      let so = if_passed k view m modelled det alone τ (world (place H old.rates) (view old.desk)) mid line old.report told e is (modelled.passes old.desk line passes) b may in
+      missed τ H texts history sees so.d so.event so.did.did.may (told, so.next)) by
     where
       by : IsStop new → EndsAt old new
       by (n, inl stop) =
@@ -113,15 +137,23 @@ module _ {K T : Type 0} (k : Ghosts K T) (number : ℕ) (line : List ℕ) where
       by (n, inr stop) = absurd (own n stop)
 
   -- nothing of the line was begun
-  pub unbegun : (old new : AuditWorld K) (taken : Option (List ℕ)) → new.audit ≡ old.audit → new.desk ≡ old.desk → ((n : ℕ) → new.verdict ≡ verdict.Stopped n → ⊥)
+  pub unbegun : (old new : AuditWorld K) (taken : Option (List ℕ)) → new.audit ≡ old.audit → new.desk ≡ old.desk → IsOpen new.verdict → ((n : ℕ) → new.verdict ≡ verdict.Stopped n → ⊥)
       → ((n : ℕ) → new.verdict ≡ verdict.StoppedInOwn n → Consumes old.report new.report [] × IsAtEnd new.report) → End (Some Stopped) old new taken taken
-  unbegun old new taken audit same none own = ends old new taken (ap (λ (a : Audit). keeps a) audit) by
+  unbegun old new taken audit same is_open none own = ends old new taken (ap (λ (a : Audit). keeps a) audit) (inl is_open) (λ τ H texts history sees mid told b may. is_open) by
     where
       by : IsStop new → EndsAt old new
       by (n, inl stop) = absurd (none n stop)
       by (n, inr stop) =
           let w = own n stop in
           ([], w.0, w.1, λ τ H texts history sees. none_begun (record { silent = refl; sees = subst (λ (a : Audit). Sees a H) (sym audit) sees; stays = same }))
+
+  -- what the report has of an own line's answer, whatever may have been done for it
+  abbrev pub OwnLeaves : (ℕ → List ℕ → Reply → Type 0) → Audit → List ℕ → K → Next → Option (List ℕ) → (Tariff → World Place V → List ℕ → Type 0) → Type 0
+  OwnLeaves Fails audit left mid first report P = AtEachSeen audit (λ τ H. (new : World Place V) (text : List ℕ) (more : List (List ℕ)) (told : List ℕ) (steps : List StepRecord)
+      → MayAnswer m Fails τ (world (place H left) (view mid)) new first text more steps → HasNext report text (flat_map ended more ++ told) → P τ new told)
+
+  abbrev pub Tells : (ℕ → List ℕ → Reply → Type 0) → Type 0
+  Tells Fails = (τ : Tariff) (old new : World Place V) (own : List ℕ) (steps : List StepRecord) → DidOwn (by_model m) (MayStep τ) old new own steps Say → TellsFailures Fails steps (m.texts new.desk)
 
   -- of an own line that was begun
   own_left : (τ : Tariff) (H : Ledger) (rates : List ℕ) (desk mid desk1 : K) (audit1 : Audit) (own : k.Own) (first : Next) (told : List ℕ) → k.IsOwn own line → k.Begins desk own first mid
@@ -149,14 +181,26 @@ module _ {K T : Type 0} (k : Ghosts K T) (number : ℕ) (line : List ℕ) where
     left = one.left;
   })
 
+  -- what may have been done for an own line of which this was asked first
+  own_may : (Fails : ℕ → List ℕ → Reply → Type 0) → Tells Fails → (τ : Tariff) (H : Ledger) (left : List ℕ) (desk mid : K) (own : k.Own) (first : Next) → k.IsOwn own line → k.Begins desk own first mid → first ≢ Stop
+      → (new : World Place V) (report : Option (List ℕ)) (told : List ℕ) (b : SideStep (List ℕ)) → MayBe m τ (world (place H left) (view desk)) new line report told b
+      → OwnMayBe k view m modelled det alone τ (world (place H left) (view desk)) new line report told Fails first (view mid)
+  own_may Fails tells τ H left desk mid own first is begins goes new report told b may =
+      if_own k view m modelled det alone τ (world (place H left) (view desk)) new line report told Fails (λ old x y steps did. tells τ old x y steps did) own is first (view mid)
+      (modelled.begins desk mid own line first is begins goes) b may
+
   -- the report ended within the answer to an own line
   pub own_stopped : (audit0 audit1 : Audit) (left0 left1 : List ℕ) (desk mid desk1 : K) (report0 report1 : Option (List ℕ)) (v0 v1 : SideVerdict) (taken : Option (List ℕ)) (own : k.Own) (first : Next)
-      → keeps audit1 ≡ keeps audit0 → k.IsOwn own line → k.Begins desk own first mid
+      → (Fails : ℕ → List ℕ → Reply → Type 0) → Tells Fails → keeps audit1 ≡ keeps audit0 → k.IsOwn own line → k.Begins desk own first mid → first ≢ Stop
+      → OwnLeaves Fails audit0 left0 mid first report0 (λ τ new told. IsOpen v1)
       → ((n : ℕ) → v1 ≡ verdict.Stopped n → ReadsInOwn k audit0 left0 mid first report0 audit1 desk1 report1)
       → ((n : ℕ) → v1 ≡ verdict.StoppedInOwn n → ReadsInOwn k audit0 left0 mid first report0 audit1 desk1 report1)
       → End (Some Stopped) (audit_world audit0 left0 desk report0 v0) (audit_world audit1 left1 desk1 report1 v1) taken taken
-  own_stopped audit0 audit1 left0 left1 desk mid desk1 report0 report1 v0 v1 taken own first kept is begins one two =
-      ends (audit_world audit0 left0 desk report0 v0) (audit_world audit1 left1 desk1 report1 v1) taken kept by
+  own_stopped audit0 audit1 left0 left1 desk mid desk1 report0 report1 v0 v1 taken own first Fails tells kept is begins goes leaves one two =
+      ends (audit_world audit0 left0 desk report0 v0) (audit_world audit1 left1 desk1 report1 v1) taken kept (inr (inr (own, is)))
+      (λ τ H texts history sees new told b may.
+      let so = own_may Fails tells τ H left0 desk mid own first is begins goes new report0 told b may in
+      leaves τ H texts history sees new so.text so.more told so.steps so.may so.next) by
     where
       so : ReadsInOwn k audit0 left0 mid first report0 audit1 desk1 report1 → EndsAt (audit_world audit0 left0 desk report0 v0) (audit_world audit1 left1 desk1 report1 v1)
       so r = (r.0, r.1, r.2, λ τ H texts history sees. own_left τ H left0 desk mid desk1 audit1 own first r.0 is begins (r.3 τ H texts history sees))
@@ -167,13 +211,14 @@ module _ {K T : Type 0} (k : Ghosts K T) (number : ℕ) (line : List ℕ) where
 
   -- the extension answered, and the report has its texts
   pub answered : (audit0 audit1 : Audit) (left0 left1 : List ℕ) (desk mid desk1 : K) (report0 report1 : Option (List ℕ)) (v0 v1 : SideVerdict) (taken : Option (List ℕ)) (own : k.Own) (first : Next)
-      → keeps audit1 ≡ keeps audit0 → k.IsOwn own line → k.Begins desk own first mid
+      → (Fails : ℕ → List ℕ → Reply → Type 0) → Tells Fails → keeps audit1 ≡ keeps audit0 → k.IsOwn own line → k.Begins desk own first mid → first ≢ Stop
+      → OwnLeaves Fails audit0 left0 mid first report0 (λ τ new told. IsMet view τ audit1 left1 desk1 new × (report1 ≡ Some told))
       → AtEachSeen audit0 (λ τ H. AskedSo k τ (world (place H left0) mid) audit1 left1 desk1 first Say)
-      → Consumes report0 report1 (flat_map ended (k.texts desk1)) → End None (audit_world audit0 left0 desk report0 v0) (audit_world audit1 left1 desk1 report1 v1) taken taken
-  answered audit0 audit1 left0 left1 desk mid desk1 report0 report1 v0 v1 taken own first kept is begins asked read = LineEnd.did (record {
+      → Consumes report0 report1 (flat_map ended (k.texts desk1)) → AllByRecursion IsText (k.texts desk1) → End None (audit_world audit0 left0 desk report0 v0) (audit_world audit1 left1 desk1 report1 v1) taken taken
+  answered audit0 audit1 left0 left1 desk mid desk1 report0 report1 v0 v1 taken own first Fails tells kept is begins goes leaves asked read each = LineEnd.did (record {
     trace_step = Own line own (k.texts desk1);
     line_is = refl;
-    is = is;
+    is = (is, each);
     did = record {
       kept = kept;
       took = (audit_world audit1 left1 desk1 report1 v1, read, refl);
@@ -184,6 +229,9 @@ module _ {K T : Type 0} (k : Ghosts K T) (number : ℕ) (line : List ℕ) where
             record { did = record { first = first; desk = mid; begins = begins; asks = so.asks }; answer = ap (λ (x : K). k.texts x) (sym so.seen.desk) },
             record { history = so.seen.history; sees = so.seen.sees; left = so.seen.left; desk = so.seen.desk },
           );
+      only = λ τ H texts history sees new told b may.
+          let so = own_may Fails tells τ H left0 desk mid own first is begins goes new report0 told b may in
+          leaves τ H texts history sees new so.text so.more told so.steps so.may so.next;
     };
     reported = (tt, Appends-nil taken);
   })
@@ -196,11 +244,12 @@ module _ {K T : Type 0} (k : Ghosts K T) (number : ℕ) (line : List ℕ) where
 
   -- an event got an answer that the auditor took
   pub heard : {A : Type 0} (IsOf : A → Turn → Type 0) (told : A) (audit0 audit1 : Audit) (left0 left1 : List ℕ) (desk desk1 : K) (report0 report1 : Option (List ℕ)) (v0 v1 : SideVerdict) (taken : Option (List ℕ)) (e : Event) (answer : List ℕ) (outcome : Option SideStatus)
+      → IsOneLine answer
       → keeps audit1 ≡ keeps audit0 → IsLineOf e line → k.Passes desk line → ((turn : Turn) → IsOf told turn → k.Sees desk e turn desk1)
       → TakesLine IsOf told e answer audit0 audit1 left0 left1 → Consumes report0 report1 (ended answer)
       → IfNone outcome (e ≢ ev.End) → IfSome outcome (λ s. (s ≡ Run status.Done) × (e ≡ ev.End))
       → End outcome (audit_world audit0 left0 desk report0 v0) (audit_world audit1 left1 desk1 report1 v1) taken taken
-  heard IsOf told audit0 audit1 left0 left1 desk desk1 report0 report1 v0 v1 taken e answer outcome kept is passes sees_it takes read goes end = LineEnd.did (record {
+  heard IsOf told audit0 audit1 left0 left1 desk desk1 report0 report1 v0 v1 taken e answer outcome answer_one kept is passes sees_it takes read goes end = LineEnd.did (record {
     trace_step = Heard line e answer;
     line_is = refl;
     is = is;
@@ -225,6 +274,11 @@ module _ {K T : Type 0} (k : Ghosts K T) (number : ℕ) (line : List ℕ) where
             },
             record { history = moves d.event d.text d.reply history t.may.unforged t.may.moves; sees = t.sees; left = refl; desk = refl },
           );
+      only = λ τ H texts history sees mid rest b may.
+          let w = takes τ H texts history sees in
+          let so = if_passed k view m modelled det alone τ (world (place H left0) (view desk)) mid line report0 rest e is (modelled.passes desk line passes) b may in
+          met_event m det view τ H e line answer left0 left1 audit1 desk desk1 mid report0 report1 rest so.d w.0 history so.event so.did so.next answer_one read w.1
+          (modelled.sees desk desk1 e (turn_at τ H w.0) (sees_it (turn_at τ H w.0) w.2));
     };
     reported = ended_reported e outcome taken goes end;
   })

@@ -9,7 +9,8 @@ use Rattle.bench_abstraction.specs.Tariff.{IsOfTexts}
 use Rattle.ledger_moves.specs.Tariffs.{Tariff}
 use Rattle.ledger_moves.specs.Histories.{History, begins}
 use Rattle.line_runs.specs.Lines.{IsLineIn}
-use Rattle.line_runs.specs.Trace.{report_of}
+use Rattle.std.specs.List.{AllByRecursion}
+use Rattle.line_runs.specs.Trace.{Reads, report_of}
 use Rattle.line_runs.specs.Runs.{DidLast, RanOut, EndsIn, Replayed}
 use Rattle.line_runs.specs.Turns as turns
 use Rattle.line_runs.specs.declared.status.Status.{Status}
@@ -23,12 +24,14 @@ use Rattle.trace_runs.specs.Between.{SeesBetween}
 use Rattle.trace_runs.specs.Verdicts.{status_of}
 use Rattle.trace_runs.specs.declared.verdict.Ending.{Ending}
 use Rattle.trace_runs.specs.declared.verdict.Ending.TheVariants as ends
+use Rattle.trace_extensions.specs.Fits.{HasTexts}
+use Rattle.trace_extensions.specs.Models.{Model}
 use Rattle.trace_extensions.specs.Places.{Place, place, MayStep}
 use Rattle.trace_extensions.specs.Sides.{MayHaveDone, MayHaveRun}
 use Rattle.trace_extensions.specs.Steps.{AuditWorld, AuditStep, Heard, Own, Passed, audit_lines, AuditIsEnd, AuditGoesOn, AuditEnds}
 use Rattle.trace_extensions.specs.Steps as audit
 use Rattle.trace_extensions.specs.Worlds.{AuditLeaves, IsSeenAt, DidAudit}
-use Rattle.trace_extensions.proofs.Translated.{IsStepOf, AreStepsOf, NoneEnds, DoneTwice, done_twice, same_length, same_script, same_report, texts_of, read_step, all_read, all_go_on, going, took}
+use Rattle.trace_extensions.proofs.Translated.{IsStepOf, AreStepsOf, NoneEnds, DoneTwice, done_twice, same_length, same_script, same_report, texts_of, read_step, all_read, all_go_on, all_texts, going, took}
 
 -- the run came to the end of its script
 abbrev pub IsWhole : Status → Type 0
@@ -126,7 +129,7 @@ module _ {K T : Type 0} (k : Ghosts K T) where
   none_goes : (done : List (AuditStep k.Own K)) → done ≡ [] → NoneEnds k done
   none_goes done is = subst (λ (l : List (AuditStep k.Own K)). NoneEnds k l) (sym is) tt
 
-  last_goes : (s : Status) → IsWhole s → (number : ℕ) (bytes : List ℕ) (end : Type 0) (text : List ℕ) (done : List (AuditStep k.Own K)) → EndsIn (audit_lines k) (Run s) number bytes end text done
+  pub last_goes : (s : Status) → IsWhole s → (number : ℕ) (bytes : List ℕ) (end : Type 0) (text : List ℕ) (done : List (AuditStep k.Own K)) → EndsIn (audit_lines k) (Run s) number bytes end text done
       → NoneEnds k done
   last_goes status.Done whole number bytes end text done (did, is_end, told) = one_goes did.last done did.only (end_goes did.last is_end)
   last_goes (status.Script line) whole number bytes end text done (few, inl (is, none, told, bad)) = none_goes done none
@@ -138,7 +141,7 @@ module _ {K T : Type 0} (k : Ghosts K T) where
   last_goes status.WriteFault whole number bytes end text done is = absurd whole
   last_goes status.Memory whole number bytes end text done is = absurd whole
 
-  both_go : (xs ys : List (AuditStep k.Own K)) → NoneEnds k xs → NoneEnds k ys → NoneEnds k (xs ++ ys)
+  pub both_go : (xs ys : List (AuditStep k.Own K)) → NoneEnds k xs → NoneEnds k ys → NoneEnds k (xs ++ ys)
   both_go [] ys one two = two
   both_go (a ∷ xs) ys one two = (one.0, both_go xs ys one.1 two)
 
@@ -146,10 +149,32 @@ module _ {K T : Type 0} (k : Ghosts K T) where
   texts_both [] ys = refl
   texts_both (a ∷ xs) ys = ap (λ (l : List ℕ). audit.audit_text a ++ l) (texts_both xs ys) ∙ sym (append_assoc (audit.audit_text a) (texts_of k xs) (texts_of k ys))
 
+  both_texts : (xs ys : List (SideStep k.Own)) → AllByRecursion HasTexts xs → AllByRecursion HasTexts ys → AllByRecursion HasTexts (xs ++ ys)
+  both_texts [] ys one two = two
+  both_texts (x ∷ xs) ys one two = (one.0, both_texts xs ys one.1 two)
+
+  one_texts : (a : AuditStep k.Own K) (done : List (AuditStep k.Own K)) (ys : List (SideStep k.Own)) → AreStepsOf k done ys → done ≡ a ∷ [] → Reads (audit_lines k) a → AllByRecursion HasTexts ys
+  one_texts a done ys are is reads = all_texts k (a ∷ []) ys (subst (λ (l : List (AuditStep k.Own K)). AreStepsOf k l ys) is are) (reads, tt)
+
+  no_texts : (done : List (AuditStep k.Own K)) (ys : List (SideStep k.Own)) → AreStepsOf k done ys → done ≡ [] → AllByRecursion HasTexts ys
+  no_texts done ys are is = all_texts k [] ys (subst (λ (l : List (AuditStep k.Own K)). AreStepsOf k l ys) is are) tt
+
+  last_texts : (s : Status) → IsWhole s → (number : ℕ) (bytes : List ℕ) (end : Type 0) (text : List ℕ) (done : List (AuditStep k.Own K)) (ys : List (SideStep k.Own)) → AreStepsOf k done ys
+      → EndsIn (audit_lines k) (Run s) number bytes end text done → AllByRecursion HasTexts ys
+  last_texts status.Done whole number bytes end text done ys are (did, is_end, told) = one_texts did.last done ys are did.only did.reads
+  last_texts (status.Script line) whole number bytes end text done ys are (few, inl (is, none, told, bad)) = no_texts done ys are none
+  last_texts (status.Script line) whole number bytes end text done ys are (few, inr (is, out)) = one_texts out.last done ys are out.only out.reads
+  last_texts status.TooLong whole number bytes end text done ys are (inl (is, none, no_done, told)) = no_texts done ys are no_done
+  last_texts status.TooLong whole number bytes end text done ys are (inr (is, out)) = one_texts out.last done ys are out.only out.reads
+  last_texts status.Words whole number bytes end text done ys are is = absurd whole
+  last_texts status.ReadFault whole number bytes end text done ys are is = absurd whole
+  last_texts status.WriteFault whole number bytes end text done ys are is = absurd whole
+  last_texts status.Memory whole number bytes end text done ys are is = absurd whole
+
   -- == the whole run ==
 
-  module _ (s : Status) (whole : IsWhole s) (left0 left1 t0 t1 : Option (List ℕ)) (w0 w1 : AuditWorld K)
-      (r : Replayed (audit_lines k) (Run s) (turns.Ended (DidAudit k) AuditLeaves (Run s) w0 w1) left0 left1 t0 t1) where
+  module _ {V : Type 0} (view : K → V) (m : Model V) (s : Status) (whole : IsWhole s) (left0 left1 t0 t1 : Option (List ℕ)) (w0 w1 : AuditWorld K)
+      (r : Replayed (audit_lines k) (Run s) (turns.Ended (DidAudit k view m) AuditLeaves (Run s) w0 w1) left0 left1 t0 t1) where
     none_ends : NoneEnds k r.trace
     none_ends = going k r.trace r.go_on
 
@@ -193,6 +218,7 @@ module _ {K T : Type 0} (k : Ghosts K T) where
               (ap (λ (d : K). world w.new.scene d) (w.that.desk ∙ sym (ap (λ (x : AuditWorld K). x.desk) r.did.leaves))) w.does;
           history = w.that.history;
           sees = subst (λ (x : AuditWorld K). Sees x.audit w.new.scene.ledger) (sym r.did.leaves) w.that.sees;
+          texts = both_texts w.first w.last (all_texts k r.trace w.first w.are_first r.each) (last_texts s whole _ _ _ _ r.done w.last w.are_last r.ends);
         }
 
     -- the audit began after the runs before, and the report ended there
@@ -207,16 +233,16 @@ module _ {K T : Type 0} (k : Ghosts K T) where
           (may_have_done τ (Begin ∷ H) texts (begins history) (begun H between));
     }
 
-  whole_end : (end : Ending) → IsWhole (status_of end)
+  pub whole_end : (end : Ending) → IsWhole (status_of end)
   whole_end ends.Done = tt
   whole_end (ends.Script line) = tt
   whole_end ends.TooLong = tt
 
   -- the script ended so, and the report with it
-  pub may_have_ended : (end e : Ending) (left0 left1 t0 t1 : Option (List ℕ)) (w0 w1 : AuditWorld K)
-      → Replayed (audit_lines k) (Run (status_of end)) (turns.Ended (DidAudit k) AuditLeaves (Run (status_of end)) w0 w1) left0 left1 t0 t1 → e ≡ end
+  pub may_have_ended : {V : Type 0} (view : K → V) (m : Model V) (end e : Ending) (left0 left1 t0 t1 : Option (List ℕ)) (w0 w1 : AuditWorld K)
+      → Replayed (audit_lines k) (Run (status_of end)) (turns.Ended (DidAudit k view m) AuditLeaves (Run (status_of end)) w0 w1) left0 left1 t0 t1 → e ≡ end
       → (old : Audit) (rates : List ℕ) (report2 : Option (List ℕ)) → w0.rates ≡ rates → ((H : Ledger) → SeesBetween old H → Sees w0.audit (Begin ∷ H)) → Consumes w1.report report2 [] → IsAtEnd report2
       → MayHaveRun k (status_of e) left0 left1 w0.report report2 rates w0.desk w1.desk old w1.audit
-  may_have_ended end e left0 left1 t0 t1 w0 w1 r is old rates report2 same begun more at_end =
+  may_have_ended view m end e left0 left1 t0 t1 w0 w1 r is old rates report2 same begun more at_end =
       subst (λ (x : Ending). MayHaveRun k (status_of x) left0 left1 w0.report report2 rates w0.desk w1.desk old w1.audit) (sym is)
-      (may_have_run (status_of end) (whole_end end) left0 left1 t0 t1 w0 w1 r old rates report2 same begun more at_end)
+      (may_have_run view m (status_of end) (whole_end end) left0 left1 t0 t1 w0 w1 r old rates report2 same begun more at_end)

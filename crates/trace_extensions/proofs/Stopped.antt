@@ -15,6 +15,7 @@ use Rattle.line_extensions.specs.Desks.{World, world}
 use Rattle.line_extensions.specs.declared.extension.Extension.{Ghosts}
 use Rattle.trace_bench.specs.Seeing.{Audit, Sees}
 use Rattle.trace_runs.specs.Between.{SeesBetween}
+use Rattle.trace_extensions.specs.Models.{Model}
 use Rattle.trace_extensions.specs.Places.{Place, place}
 use Rattle.trace_extensions.specs.Sides.{MayHaveLeft, StoppedAt, MayHaveStopped}
 use Rattle.trace_extensions.specs.Stops.{LeftAt}
@@ -22,19 +23,19 @@ use Rattle.trace_extensions.specs.Steps.{AuditWorld, IsStop, AuditStep, Passed, 
 use Rattle.trace_extensions.specs.Worlds.{AuditLeaves, IsSeenAt, DidAudit}
 use Rattle.trace_extensions.proofs.Translated.{NoneEnds, Done, done, may_split, same_length, same_script, same_report, texts_of, all_read, all_go_on, going, took, took_split}
 
-module _ {K T : Type 0} (k : Ghosts K T) (left0 left1 t0 t1 : Option (List ℕ)) (w0 w1 : AuditWorld K)
-    (r : Replayed (audit_lines k) Stopped (turns.Ended (DidAudit k) AuditLeaves Stopped w0 w1) left0 left1 t0 t1)
+module _ {K T : Type 0} (k : Ghosts K T) {V : Type 0} (view : K → V) (m : Model V) (left0 left1 t0 t1 : Option (List ℕ)) (w0 w1 : AuditWorld K)
+    (r : Replayed (audit_lines k) Stopped (turns.Ended (DidAudit k view m) AuditLeaves Stopped w0 w1) left0 left1 t0 t1)
     (old : Audit) (rates : List ℕ) (same : w0.rates ≡ rates) (begun : (H : Ledger) → SeesBetween old H → Sees w0.audit (Begin ∷ H)) where
   none_ends : NoneEnds k r.trace
   none_ends = going k r.trace r.go_on
 
   -- what it did, up to the last line
-  with_last : (did : DidLast (audit_lines k) r.rest (IsAtEnd left1) r.done) → DidAudit k w0 r.did.behind (r.trace ++ did.last ∷ [])
-  with_last did = subst (λ (d : List (AuditStep k.Own K)). DidAudit k w0 r.did.behind (r.trace ++ d)) did.only r.did.did
+  with_last : (did : DidLast (audit_lines k) r.rest (IsAtEnd left1) r.done) → DidAudit k view m w0 r.did.behind (r.trace ++ did.last ∷ [])
+  with_last did = subst (λ (d : List (AuditStep k.Own K)). DidAudit k view m w0 r.did.behind (r.trace ++ d)) did.only r.did.did
 
   module _ (did : DidLast (audit_lines k) r.rest (IsAtEnd left1) r.done) (line told : List ℕ) (left : AuditWorld K) (last : did.last ≡ Begun line told left) where
-    whole : DidAudit k w0 r.did.behind (r.trace ++ Begun line told left ∷ [])
-    whole = subst (λ (d : AuditStep k.Own K). DidAudit k w0 r.did.behind (r.trace ++ d ∷ [])) last (with_last did)
+    whole : DidAudit k view m w0 r.did.behind (r.trace ++ Begun line told left ∷ [])
+    whole = subst (λ (d : AuditStep k.Own K). DidAudit k view m w0 r.did.behind (r.trace ++ d ∷ [])) last (with_last did)
 
     -- the lines before, at a history
     lines_done : (τ : Tariff) (H : Ledger) → IsOfTexts τ → History τ editions H → Sees w0.audit H
@@ -93,9 +94,9 @@ module _ {K T : Type 0} (k : Ghosts K T) (left0 left1 t0 t1 : Option (List ℕ))
   -- the audit ended elsewhere
   elsewhere : (did : DidLast (audit_lines k) r.rest (IsAtEnd left1) r.done) (line : List ℕ) (left : AuditWorld K) → did.last ≡ Ended line left → IsStop w1 → ⊥
   elsewhere did line left last stop =
-      let whole = subst (λ (d : AuditStep k.Own K). DidAudit k w0 r.did.behind (r.trace ++ d ∷ [])) last (with_last did) in
+      let whole = subst (λ (d : AuditStep k.Own K). DidAudit k view m w0 r.did.behind (r.trace ++ d ∷ [])) last (with_last did) in
       let split = took_split k w0 r.did.behind r.trace (Ended line left ∷ []) whole.took in
-      let none : IsStop left → ⊥ = rw last at did.reads.is in
+      let none : IsStop left → ⊥ = (rw last at did.reads.is).0 in
       none (subst (λ (x : AuditWorld K). IsStop x) (r.did.leaves ∙ split.2) stop)
 
   by_last : (did : DidLast (audit_lines k) r.rest (IsAtEnd left1) r.done) (last : AuditStep k.Own K) → did.last ≡ last → AuditEnds last → IsStop w1

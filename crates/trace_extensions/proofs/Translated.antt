@@ -14,6 +14,7 @@ use Rattle.line_extensions.specs.SideTrace.{SideStep, Plain, side_line, side_tex
 use Rattle.line_extensions.specs.SideTrace as side
 use Rattle.line_extensions.specs.declared.extension.Extension.{Ghosts}
 use Rattle.bench_base.specs.declared.events.Event.{Event}
+use Rattle.trace_extensions.specs.Fits.{HasTexts}
 use Rattle.trace_extensions.specs.Places.{Place, MayStep}
 use Rattle.trace_extensions.specs.Steps.{AuditWorld, AuditStep, Passed, Heard, Own, Begun, Ended, audit_line, audit_text, audit_lines, AuditIsOf, AuditIsEnd, AuditGoesOn, AuditEnds}
 use Rattle.trace_extensions.specs.Worlds.{MayDo, Took}
@@ -24,6 +25,7 @@ module _ {K T : Type 0} (k : Ghosts K T) where
     pub line : side_line b ≡ audit_line a
     pub text : side_text b ≡ audit_text a
     pub is : AuditIsOf k.IsOwn a → SideIsOf k.IsOwn b
+    pub texts : AuditIsOf k.IsOwn a → HasTexts b
     pub goes : AuditGoesOn a → SideGoesOn b
     pub end : AuditIsEnd a → SideIsEnd b
 
@@ -64,17 +66,18 @@ module _ {K T : Type 0} (k : Ghosts K T) where
   pub done : (τ : Tariff) (P : World Place K → Type 0) (xs : List (AuditStep k.Own K)) → NoneEnds xs → (at : World Place K) → MayDo k τ P at xs → Done τ P at xs
   done τ P [] none at may = record { steps = []; new = at; are = tt; does = refl; that = may }
   done τ P (Passed line ∷ xs) none at may =
-      one_more τ P at at (Passed line) xs (Plain (Skipped line)) (record { line = refl; text = refl; is = λ is. is; goes = λ goes. goes; end = λ end. end }) refl (done τ P xs none.1 at may)
+      one_more τ P at at (Passed line) xs (Plain (Skipped line)) (record { line = refl; text = refl; is = λ is. is; texts = λ is. tt; goes = λ goes. goes; end = λ end. end }) refl (done τ P xs none.1 at may)
   done τ P (Heard line e answer ∷ xs) none at (d, mid, h, may) =
       one_more τ P at mid (Heard line e answer) xs (Plain (Did line d)) (record {
         line = refl;
         text = ap (λ (l : List ℕ). ended l) h.text;
         is = λ is. (subst (λ (x : Event). IsLineOf x line) (sym h.event) is, h.did.did.may.whole);
+        texts = λ is. tt;
         goes = λ goes end. goes (sym h.event ∙ end);
         end = λ end. h.event ∙ end;
       }) h.did (done τ P xs none.1 mid may)
   done τ P (Own line own texts ∷ xs) none at (steps, mid, answered, may) =
-      one_more τ P at mid (Own line own texts) xs (side.Own line own steps texts) (record { line = refl; text = refl; is = λ is. is; goes = λ goes. goes; end = λ end. end }) answered
+      one_more τ P at mid (Own line own texts) xs (side.Own line own steps texts) (record { line = refl; text = refl; is = λ is. is.0; texts = λ is. is.1; goes = λ goes. goes; end = λ end. end }) answered
       (done τ P xs none.1 mid may)
   done τ P (Begun line told left ∷ xs) none at may = absurd (none.0 tt)
   done τ P (Ended line left ∷ xs) none at may = absurd (none.0 tt)
@@ -146,6 +149,12 @@ module _ {K T : Type 0} (k : Ghosts K T) where
   all_go_on [] (b ∷ ys) are each = absurd are
   all_go_on (a ∷ xs) [] are each = absurd are
   all_go_on (a ∷ xs) (b ∷ ys) are each = (are.0.goes each.0, all_go_on xs ys are.1 each.1)
+
+  pub all_texts : (xs : List (AuditStep k.Own K)) (ys : List (SideStep k.Own)) → AreStepsOf xs ys → AllByRecursion (Reads (audit_lines k)) xs → AllByRecursion HasTexts ys
+  all_texts [] [] are each = tt
+  all_texts [] (b ∷ ys) are each = absurd are
+  all_texts (a ∷ xs) [] are each = absurd are
+  all_texts (a ∷ xs) (b ∷ ys) are each = (are.0.texts each.0.is, all_texts xs ys are.1 each.1)
 
   -- what goes on doesn't end the audit
   pub going : (xs : List (AuditStep k.Own K)) → AllByRecursion (audit_lines k).GoesOn xs → NoneEnds xs

@@ -1,5 +1,5 @@
 -- An audit has the lines of a line handler.
-use Rattle.std.proofs.Common.{◌≡◌, inl, inr, ℕ, List, [], ◌∷◌, ◌++◌, refl, sym, ◌∙◌, ap, subst}
+use Rattle.std.proofs.Common.{◌≡◌, inl, inr, ℕ, List, [], ◌∷◌, ◌++◌, Option, Some, refl, sym, ◌∙◌, ap, subst}
 use Rattle.bench_base.specs.Ledger.{Ledger}
 use Rattle.ledger_moves.specs.Tariffs.{Tariff}
 use Rattle.line_runs.specs.Trace.{FitsGrammar}
@@ -10,6 +10,8 @@ use Rattle.line_extensions.specs.Desks.{World, world}
 use Rattle.line_extensions.specs.declared.extension.Extension.{Ghosts}
 use Rattle.trace_extensions.specs.Places.{Place, place}
 use Rattle.trace_extensions.specs.Steps.{AuditWorld, AuditStep, Passed, Heard, Own, Begun, Ended, audit_grammar, audit_lines, AuditIsOf, AuditGoesOn, AuditIsEnd, audit_line}
+use Rattle.trace_extensions.specs.Exact.{IsMetIn, Only}
+use Rattle.trace_extensions.specs.Models.{Model}
 use Rattle.trace_extensions.specs.Worlds.{AuditLeaves, IsSeenAt, MayDo, Took, DidAudit}
 
 module _ {K T : Type 0} (k : Ghosts K T) where
@@ -31,38 +33,59 @@ module _ {K T : Type 0} (k : Ghosts K T) where
   may_both τ P Q (Ended line left ∷ xs) ys next at p = tt
 
   -- an audit of one who has the same
-  at_same : (at : World Place K) (ledger : Ledger) (rates : List ℕ) (desk : K) → at.scene.ledger ≡ ledger → at.scene.left ≡ rates → at.desk ≡ desk
-      → world (place ledger rates) desk ≡ at
-  at_same at ledger rates desk one two three =
+  at_same : {X : Type 0} (at : World Place X) (ledger : Ledger) (rates : List ℕ) (desk : X) → at.scene.ledger ≡ ledger → at.scene.left ≡ rates
+      → at.desk ≡ desk → world (place ledger rates) desk ≡ at
+  at_same {X} at ledger rates desk one two three =
       ap (λ (l : Ledger). world (place l rates) desk) (sym one) ∙ ap (λ (r : List ℕ). world (place at.scene.ledger r) desk) (sym two)
-      ∙ ap (λ (x : K). world (place at.scene.ledger at.scene.left) x) (sym three)
+      ∙ ap (λ (x : X). world (place at.scene.ledger at.scene.left) x) (sym three)
 
-  both : (x y z : AuditWorld K) (a b : List (AuditStep k.Own K)) → DidAudit k x y a → DidAudit k y z b → DidAudit k x z (a ++ b)
-  both x y z a b p q = record {
-    kept = q.kept ∙ p.kept;
-    took = took_both x y z a b p.took q.took;
-    may = λ τ H texts history sees. may_both τ (IsSeenAt τ y.audit y.rates y.desk) (IsSeenAt τ z.audit z.rates z.desk) a b
-        (λ at seen. subst (λ (w : World Place K). MayDo k τ (IsSeenAt τ z.audit z.rates z.desk) w b)
-        (at_same at at.scene.ledger y.rates y.desk refl seen.left seen.desk)
-        (q.may τ at.scene.ledger texts seen.history seen.sees)) (world (place H x.rates) x.desk) (p.may τ H texts history sees);
-  }
+  module _ {V : Type 0} (view : K → V) (m : Model V) where
+    abbrev Met : Tariff → AuditWorld K → World Place V → Option (List ℕ) → Type 0
+    Met τ w at report = IsMetIn view τ w at report
 
-  pub audit_done : AreDone (DidAudit k) AuditLeaves
-  audit_done = record {
-    nothing = λ w. record {
-      kept = refl;
-      took = refl;
-      may = λ τ H texts history sees. record { history = history; sees = sees; left = refl; desk = refl };
-    };
-    both = both;
-    rests = λ s b other. refl;
-  }
+    only_both : (τ : Tariff) (P Q : World Place V → Option (List ℕ) → Type 0) (xs ys : List (AuditStep k.Own K))
+        → ((at : World Place V) (report : Option (List ℕ)) → P at report → Only k m τ Q at report ys)
+        → (at : World Place V) (report : Option (List ℕ)) → Only k m τ P at report xs → Only k m τ Q at report (xs ++ ys)
+    only_both τ P Q [] ys next at report p = next at report p
+    only_both τ P Q (Passed line ∷ xs) ys next at report p = λ mid told b may. only_both τ P Q xs ys next mid (Some told) (p mid told b may)
+    only_both τ P Q (Heard line e answer ∷ xs) ys next at report p = λ mid told b may. only_both τ P Q xs ys next mid (Some told) (p mid told b may)
+    only_both τ P Q (Own line own texts ∷ xs) ys next at report p = λ mid told b may. only_both τ P Q xs ys next mid (Some told) (p mid told b may)
+    only_both τ P Q (Begun line begun left ∷ xs) ys next at report p = p
+    only_both τ P Q (Ended line left ∷ xs) ys next at report p = p
+
+    both : (x y z : AuditWorld K) (a b : List (AuditStep k.Own K)) → DidAudit k view m x y a → DidAudit k view m y z b → DidAudit k view m x z (a ++ b)
+    both x y z a b p q = record {
+      kept = q.kept ∙ p.kept;
+      took = took_both x y z a b p.took q.took;
+      may = λ τ H texts history sees. may_both τ (IsSeenAt τ y.audit y.rates y.desk) (IsSeenAt τ z.audit z.rates z.desk) a b
+          (λ at seen. subst (λ (w : World Place K). MayDo k τ (IsSeenAt τ z.audit z.rates z.desk) w b)
+          (at_same at at.scene.ledger y.rates y.desk refl seen.left seen.desk)
+          (q.may τ at.scene.ledger texts seen.history seen.sees)) (world (place H x.rates) x.desk) (p.may τ H texts history sees);
+      only = λ τ H texts history sees. only_both τ (Met τ y) (Met τ z) a b
+          (λ at report met. subst (λ (r : Option (List ℕ)). Only k m τ (Met τ z) at r b) met.1
+          (subst (λ (w : World Place V). Only k m τ (Met τ z) w y.report b)
+          (at_same at at.scene.ledger y.rates (view y.desk) refl met.0.left met.0.kept)
+          (q.only τ at.scene.ledger texts met.0.history met.0.sees)))
+          (world (place H x.rates) (view x.desk)) x.report (p.only τ H texts history sees);
+    }
+
+    pub audit_done : AreDone (DidAudit k view m) AuditLeaves
+    audit_done = record {
+      nothing = λ w. record {
+        kept = refl;
+        took = refl;
+        may = λ τ H texts history sees. record { history = history; sees = sees; left = refl; desk = refl };
+        only = λ τ H texts history sees. (record { history = history; sees = sees; left = refl; kept = refl }, refl);
+      };
+      both = both;
+      rests = λ s b other. refl;
+    }
 
   module _ (alone : (own : k.Own) (line : List ℕ) → k.IsOwn own line → IsAlone line) where
     goes_on : (d : AuditStep k.Own K) → AuditIsOf k.IsOwn d → AuditGoesOn d → (audit_grammar k).IsPassing (audit_line d)
     goes_on (Passed line) is goes = inl (inl is)
     goes_on (Heard line e answer) is goes = inl (inr (e, is, goes))
-    goes_on (Own line own texts) is goes = inr (own, is)
+    goes_on (Own line own texts) is goes = inr (own, is.0)
     goes_on (Begun line told left) is goes = absurd goes
     goes_on (Ended line left) is goes = absurd goes
 

@@ -1,11 +1,18 @@
 -- Promised: public contracts name these.
+pub mod ClaimsModel
+pub mod DepartmentsModel
+pub mod Fits
 pub mod Kept
+pub mod ManifestModel
+pub mod Models
 pub mod Places
 pub mod Rates
 pub mod Sides
+pub mod StatementModel
 pub mod Stops
 pub mod Takes
 -- Private calls and proofs alone name these.
 pub mod AuditLaws
+pub mod Exact
 pub mod Steps
 pub mod Worlds

@@ -18,17 +18,19 @@ use Rattle.line_extensions.specs.SideTrace.{SideStep}
 use Rattle.line_extensions.specs.declared.extension.Extension.{Ghosts}
 use Rattle.trace_bench.specs.Seeing.{Audit, Sees}
 use Rattle.trace_runs.specs.Between.{SeesBetween}
+use Rattle.trace_extensions.specs.Fits.{HasTexts}
 use Rattle.trace_extensions.specs.Places.{Place, place, MayStep}
 use Rattle.trace_extensions.specs.Stops.{LeftAt}
 
 module _ {K T : Type 0} (k : Ghosts K T) where
-  -- These steps may have been done by a bench and the extension, from this ledger and these rates on. The auditor then sees the ledger that they leave,
-  -- and the extension is as it found it.
+  -- These steps may have been done by a bench and the extension, from this ledger and these rates on, and each text of an answer is one line. The auditor
+  -- then sees the ledger that they leave, and the extension is as it found it.
   pub record MayHaveDone (τ : Tariff) (H : Ledger) (rates : List ℕ) (desk0 desk1 : K) (new : Audit) (trace : List (SideStep k.Own)) : Type 0 where
     pub behind : Place
     pub does : Does k (MayStep τ) (world (place H rates) desk0) (world behind desk1) trace
     pub history : History τ editions behind.ledger
     pub sees : Sees new behind.ledger
+    pub texts : AllByRecursion HasTexts trace
 
   -- A RUN MAY HAVE BEEN SO. Its report was read to its end. It is what a run with the extension writes that ends with this status, where the steps may
   -- have been done from each history on that the auditor had between the runs.

@@ -1,5 +1,6 @@
 -- What an auditor did for the lines of a script: how they are read.
 use Rattle.std.specs.Prelude.{◌≡◌, ◌≢◌, ℕ, List, [], flat_map, Option, ◌⊎◌}
+use Rattle.std.specs.List.{AllByRecursion}
 use Rattle.bench_base.specs.declared.events.Event.{Event}
 use Rattle.bench_base.specs.declared.events.Event.TheVariants as ev
 use Rattle.script_text.specs.Grammar.{IsSkipped}
@@ -9,6 +10,7 @@ use Rattle.line_extensions.specs.Events.{IsLineOf}
 use Rattle.line_extensions.specs.Desks.{side_grammar}
 use Rattle.line_extensions.specs.declared.extension.Extension.{Ghosts}
 use Rattle.trace_bench.specs.Seeing.{Audit}
+use Rattle.trace_extensions.specs.Fits.{IsOpen, IsText}
 use Rattle.trace_extensions.specs.declared.{papers.SideVerdict.SideVerdict, papers.SideVerdict.TheVariants.Stopped, papers.SideVerdict.TheVariants.StoppedInOwn}
 
 -- the auditor, the rates that are left, the extension, what is left of the report, and what is said if the audit ended
@@ -35,6 +37,10 @@ pub data AuditStep (L K : Type 0) : Type 0 where
   Begun : (line told : List ℕ) (left : AuditWorld K) → AuditStep L K
   Ended : (line : List ℕ) (left : AuditWorld K) → AuditStep L K
 
+-- the line is that of an event, or an own one
+abbrev pub IsKnown : {L : Type 0} → (L → List ℕ → Type 0) → List ℕ → Type 0
+IsKnown {L} IsOwn line = ((e : Event) × IsLineOf e line) ⊎ ((own : L) × IsOwn own line)
+
 module _ {L K : Type 0} where
   abbrev pub audit_line : AuditStep L K → List ℕ
   audit_line (Passed line) = line
@@ -54,9 +60,9 @@ module _ {L K : Type 0} where
   abbrev pub AuditIsOf : (L → List ℕ → Type 0) → AuditStep L K → Type 0
   AuditIsOf IsOwn (Passed line) = IsSkipped line
   AuditIsOf IsOwn (Heard line e answer) = IsLineOf e line
-  AuditIsOf IsOwn (Own line own texts) = IsOwn own line
-  AuditIsOf IsOwn (Begun line told left) = Unit {0}
-  AuditIsOf IsOwn (Ended line left) = IsStop left → ⊥
+  AuditIsOf IsOwn (Own line own texts) = IsOwn own line × AllByRecursion IsText texts
+  AuditIsOf IsOwn (Begun line told left) = IsOpen left.verdict ⊎ IsKnown IsOwn line
+  AuditIsOf IsOwn (Ended line left) = (IsStop left → ⊥) × (IsOpen left.verdict ⊎ IsKnown IsOwn line)
 
   abbrev pub AuditIsEnd : AuditStep L K → Type 0
   AuditIsEnd (Passed line) = ⊥

@@ -14,6 +14,8 @@ use Rattle.line_extensions.specs.Desks.{World, world, Asks, DidPlain, Answered}
 use Rattle.line_extensions.specs.declared.{extension.Extension.Ghosts, extension.Next.Next, extension.Next.TheVariants.Step, extension.Next.TheVariants.Say}
 use Rattle.trace_bench.specs.Seeing.{Audit, Sees, keeps}
 use Rattle.trace_bench.specs.Stopping.{IsPrefixOf}
+use Rattle.trace_extensions.specs.Exact.{IsMetIn, Only}
+use Rattle.trace_extensions.specs.Models.{Model}
 use Rattle.trace_extensions.specs.Places.{Place, place, MayStep}
 use Rattle.trace_extensions.specs.Steps.{AuditWorld, AuditStep, Passed, Heard, Own, Begun, Ended, audit_text}
 use Rattle.trace_extensions.specs.Stops.{StepBegun, LeftAt}
@@ -49,12 +51,6 @@ module _ {K T : Type 0} (k : Ghosts K T) where
   Took old new (Begun line told left ∷ rest) = Consumes old.report left.report told × IsAtEnd left.report × Took left new rest
   Took old new (Ended line left ∷ rest) = Took left new rest
   Took old new (d ∷ rest) = (mid : AuditWorld K) × Consumes old.report mid.report (audit_text d) × Took mid new rest
-
-  -- WHAT AN AUDIT DID for the lines: at each history that the auditor had, it may have been done, and the auditor sees what it leaves
-  pub record DidAudit (old new : AuditWorld K) (trace : List (AuditStep k.Own K)) : Type 0 where
-    pub kept : keeps new.audit ≡ keeps old.audit
-    pub took : Took old new trace
-    pub may : AtEachSeen old.audit (λ τ H. MayDo τ (IsSeenAt τ new.audit new.rates new.desk) (world (place H old.rates) old.desk) trace)
 
   -- the event was done by a step, of which the extension heard, and it went on so
   pub record AskedOne (τ : Tariff) (e : Event) (old : World Place K) (a : Audit) (rates : List ℕ) (desk : K) (next : Next) : Type 0 where
@@ -102,6 +98,15 @@ module _ {K T : Type 0} (k : Ghosts K T) where
   abbrev pub ReadsInOwn : Audit → List ℕ → K → Next → Option (List ℕ) → Audit → K → Option (List ℕ) → Type 0
   ReadsInOwn old left mid first report0 new desk report1 =
       (told : List ℕ) × Consumes report0 report1 told × IsAtEnd report1 × EndsInOwn old left mid first told new desk
+
+module _ {K T : Type 0} (k : Ghosts K T) {V : Type 0} (view : K → V) (m : Model V) where
+  -- WHAT AN AUDIT DID for the lines: at each history that the auditor had, it may have been done, and the auditor sees what it leaves. And by the model
+  -- only that may have been done, with what the report has.
+  pub record DidAudit (old new : AuditWorld K) (trace : List (AuditStep k.Own K)) : Type 0 where
+    pub kept : keeps new.audit ≡ keeps old.audit
+    pub took : Took k old new trace
+    pub may : AtEachSeen old.audit (λ τ H. MayDo k τ (IsSeenAt τ new.audit new.rates new.desk) (world (place H old.rates) old.desk) trace)
+    pub only : AtEachSeen old.audit (λ τ H. Only k m τ (IsMetIn view τ new) (world (place H old.rates) (view old.desk)) old.report trace)
 
 -- an audit leaves what it leaves, however it ends
 abbrev pub AuditLeaves : {K : Type 0} → SideStatus → AuditWorld K → AuditWorld K → Type 0

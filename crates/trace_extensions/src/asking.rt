@@ -1,11 +1,16 @@
 //! The steps that an extension asks for, taken from what the report has for its line.
-ghost use Rattle.std.specs.Prelude.{◌≡◌, ◌+◌, ◌<◌, ◌≤◌, length, IfOk, IfSome};
+ghost use Rattle.std.specs.Prelude.{◌≡◌, ◌≢◌, ◌+◌, ◌<◌, ◌≤◌, List, length, IfOk, IfSome, MatchResult};
 ghost use Rattle.bench_base.specs.Events.{IsWholeEvent};
+ghost use Rattle.bench_base.specs.declared.events.Reply.{Reply as TheReply};
 ghost use Rattle.bench.specs.declared.benches.TheConstants.{MOST_MESSAGES};
-ghost use Rattle.line_extensions.specs.Desks.{world};
+ghost use Rattle.line_extensions.specs.Desks.{World, world, Asked, Asks};
+ghost use Rattle.line_extensions.specs.Trace.{StepRecord};
+ghost use Rattle.line_extensions.specs.declared.extension.Next.{Next as TheNext};
 ghost use Rattle.line_extensions.specs.Wants.{MayAsk, IsStep};
 ghost use Rattle.trace_bench.specs.Seeing.{IsReady, audit_of, keeps};
-ghost use Rattle.trace_extensions.specs.Places.{place};
+ghost use Rattle.trace_extensions.specs.Exact.{IsOpenMiss, IsMet};
+ghost use Rattle.trace_extensions.specs.Models.{by_model, IsToldOf, AreToldOf};
+ghost use Rattle.trace_extensions.specs.Places.{Place, place, MayStep};
 ghost use Rattle.trace_extensions.specs.Rates.{left_of};
 ghost use Rattle.trace_extensions.specs.Takes.{AtEachSeen};
 ghost use Rattle.trace_extensions.specs.Worlds.{AskedSo, AskedOne};
@@ -14,11 +19,23 @@ use crate::extension::TracedExtension;
 use crate::rates::RatesLeft;
 use crate::taking::{Miss, due_reply, take};
 use crate::transcript::Transcript;
-use bench_base::events::Event;
+use bench_base::events::{Event, Reply};
 use line_extensions::{Extension, Next};
 use script_text::write_reply;
 use std::alloc::Global;
 use trace_bench::Auditor;
+
+// The reply to the step of this number: the failure that the line of the report has for it, or the one that is due.
+fn reply_to<D: TracedExtension>(step: u32, line: &[u8], due: Reply) -> Reply
+    ensures failed { (reply : TheReply) → D.Fails step line.now reply → result ≡ reply }
+    ensures fine { ((reply : TheReply) → D.Fails step line.now reply → ⊥) → result ≡ due }
+{
+    D::laws();
+    match D::failure(step, line) {
+        Some(failure) => failure,
+        None => due,
+    }
+}
 
 // Takes the step of this number: its reply is the failure that the line of the report has for it, or the one that is due.
 fn ask_one<D: TracedExtension>(
@@ -41,16 +58,18 @@ fn ask_one<D: TracedExtension>(
     ensures fewer { IfOk result (λ next. IsStep next → D.left desk.new < D.left desk.old) }
     ensures asked { IfOk result (λ next. AtEachSeen (audit_of auditor.old) (λ τ H. AskedOne ⟦<D as Extension>⟧ τ event.now
         (world (place H (left_of rates.old)) desk.old) (audit_of auditor.new) (left_of rates.new) desk.new next)) }
+    ensures only { AtEachSeen (audit_of auditor.old) (λ τ H. (mid : World Place D.View) (d : StepRecord) (more : TheNext)
+        → Asked (by_model D.model) (MayStep τ) (world (place H (left_of rates.old)) (D.view desk.old)) mid (TheNext.Step event.now) d more
+        → IsToldOf D.Fails step line.now d
+        → MatchResult result (λ next. next ≢ TheNext.Stop → (more ≡ next) × IsMet D.view τ
+        (audit_of auditor.new) (left_of rates.new) desk.new mid) (λ why. IsOpenMiss why)) }
 {
+    D::laws();
     let due = match due_reply(alloc, auditor, rates, event) {
         Ok(due) => due,
         Err(miss) => return Err(miss),
     };
-    let reply = match D::failure(step, line) {
-        Some(failure) => failure,
-        None => due,
-    };
-    let text = write_reply(&reply);
+    let text = write_reply(&reply_to::<D>(step, line, due));
     match take(alloc, auditor, rates, event, text.as_slice()) {
         Ok(told) => {
             transcript.step(event, &text);
@@ -79,6 +98,11 @@ pub(crate) fn ask_all<D: TracedExtension>(
     ensures last { IfOk result (λ next. IsStep next → ⊥) }
     ensures asked { IfOk result (λ next. AtEachSeen (audit_of auditor.old) (λ τ H. AskedSo ⟦<D as Extension>⟧ τ
         (world (place H (left_of rates.old)) desk.old) (audit_of auditor.new) (left_of rates.new) desk.new first next)) }
+    ensures only { AtEachSeen (audit_of auditor.old) (λ τ H. (mid : World Place D.View) (steps : List StepRecord)
+        → Asks (by_model D.model) (MayStep τ) (world (place H (left_of rates.old)) (D.view desk.old)) mid first steps TheNext.Say
+        → AreToldOf D.Fails 1 line.now steps
+        → MatchResult result (λ next. next ≢ TheNext.Stop → IsMet D.view τ
+        (audit_of auditor.new) (left_of rates.new) desk.new mid) (λ why. IsOpenMiss why)) }
 {
     let sent = auditor.message_count();
     let mut next = first;
@@ -88,10 +112,11 @@ pub(crate) fn ask_all<D: TracedExtension>(
         if auditor.message_count() != sent {
             return Err(Miss::Memory);
         }
-        number = number.saturating_add(1);
-        match ask_one(
-            alloc, auditor, rates, desk, number, &event, line, transcript,
-        ) {
+        let Some(step) = number.checked_add(1) else {
+            return Err(Miss::Memory);
+        };
+        number = step;
+        match ask_one(alloc, auditor, rates, desk, step, &event, line, transcript) {
             Ok(more) => next = more,
             Err(miss) => return Err(miss),
         }

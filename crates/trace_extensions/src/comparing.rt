@@ -1,9 +1,12 @@
 //! The answer of an extension beside the lines of the report.
-ghost use Rattle.std.specs.Prelude.{◌≡◌, ◌≢◌, ◌++◌, ◌≤◌, ℕ, List, true, false, flat_map, length, take};
+ghost use Rattle.std.specs.Prelude.{◌≡◌, ◌≢◌, ◌⊎◌, ◌++◌, ◌≤◌, ℕ, List, ◌∷◌, Some, true, false, flat_map, length, take, MatchBool};
+ghost use Rattle.std.specs.List.{AllByRecursion};
 ghost use Rattle.std.specs.Io.KnownBytes.{Consumes, IsAtEnd};
 ghost use Rattle.trace_bench.specs.Stopping.{IsPrefixOf};
 ghost use Rattle.trace_extensions.specs.declared.papers.SideVerdict.{SideVerdict as Verdict};
 ghost use Rattle.line_runs.specs.Lines.{ended};
+ghost use Rattle.trace_extensions.specs.Exact.{HasNext};
+ghost use Rattle.trace_extensions.specs.Fits.{IsOpen, IsText};
 
 use crate::papers::{Papers, SideVerdict};
 use bench_base::stream::Source;
@@ -31,6 +34,9 @@ fn compare_next<R: Source>(papers: &mut Papers<R>, text: &[u8]) -> Compared
     ensures open { result ≡ Compared.Open → (part : List ℕ) × IsPrefixOf part text.now
         × Consumes (⟦<ReadAhead<R> as Source>⟧.left papers.old.report) (⟦<ReadAhead<R> as Source>⟧.left papers.new.report) part
         × IsAtEnd (⟦<ReadAhead<R> as Source>⟧.left papers.new.report) }
+    ensures only { (told : List ℕ) → IsText text.now → HasNext (⟦<ReadAhead<R> as Source>⟧.left papers.old.report) text.now told
+        → ((result ≡ Compared.Same) × (⟦<ReadAhead<R> as Source>⟧.left papers.new.report ≡ Some told)) ⊎ (result ≡ Compared.Fault) }
+    ensures text { result ≡ Compared.Same → IsText text.now }
 {
     let mut buf = [0; 600];
     match read_line(&mut papers.report, &mut buf) {
@@ -61,6 +67,8 @@ fn is_same<R: Source>(number: u32, papers: &mut Papers<R>, text: Line, compared:
     ensures open { result ≡ false → (n : ℕ) → papers.new.verdict ≡ Verdict.Stopped n → compared ≡ Compared.Open }
     ensures in_own { result ≡ false → (n : ℕ) → papers.new.verdict ≢ Verdict.StoppedInOwn n }
     ensures report { papers.new.report ≡ papers.old.report }
+    ensures fault { compared ≡ Compared.Fault → MatchBool result ⊥ (IsOpen papers.new.verdict) }
+    ensures goes_on { compared ≡ Compared.Same → result ≡ true }
 {
     match compared {
         Compared::Same => return true,
@@ -85,6 +93,10 @@ fn rest_fits<D: Extension, R: Source>(number: u32, desk: &D, papers: &mut Papers
         × Consumes (⟦<ReadAhead<R> as Source>⟧.left papers.old.report) (⟦<ReadAhead<R> as Source>⟧.left papers.new.report) rest
         × IsAtEnd (⟦<ReadAhead<R> as Source>⟧.left papers.new.report) }
     ensures in_own { result ≡ false → (n : ℕ) → papers.new.verdict ≢ Verdict.StoppedInOwn n }
+    ensures only { (first : List ℕ) (more : List (List ℕ)) (told : List ℕ) → D.texts desk.now ≡ first ∷ more → AllByRecursion IsText more
+        → ⟦<ReadAhead<R> as Source>⟧.left papers.old.report ≡ Some (flat_map ended more ++ told)
+        → MatchBool result (⟦<ReadAhead<R> as Source>⟧.left papers.new.report ≡ Some told) (IsOpen papers.new.verdict) }
+    ensures texts { result ≡ true → (first : List ℕ) (more : List (List ℕ)) → D.texts desk.now ≡ first ∷ more → AllByRecursion IsText more }
 {
     for at in 1..desk.count() {
         let mut text = Line::new();
@@ -111,6 +123,10 @@ pub(crate) fn answer_fits<D: Extension, R: Source>(
         × Consumes (⟦<ReadAhead<R> as Source>⟧.left papers.old.report) (⟦<ReadAhead<R> as Source>⟧.left papers.new.report) rest
         × IsAtEnd (⟦<ReadAhead<R> as Source>⟧.left papers.new.report) }
     ensures in_own { result ≡ false → (n : ℕ) → papers.new.verdict ≢ Verdict.StoppedInOwn n }
+    ensures only { (more : List (List ℕ)) (told : List ℕ) → D.texts desk.now ≡ first.now ∷ more → AllByRecursion IsText more
+        → ⟦<ReadAhead<R> as Source>⟧.left papers.old.report ≡ Some (flat_map ended more ++ told)
+        → MatchBool result (⟦<ReadAhead<R> as Source>⟧.left papers.new.report ≡ Some told) (IsOpen papers.new.verdict) }
+    ensures texts { result ≡ true → IsText first.now → AllByRecursion IsText (D.texts desk.now) }
 {
     if desk.count() == 0 {
         papers.end(SideVerdict::Wrong(number));

@@ -1,11 +1,15 @@
 //! The lines of a script beside those of its report: events of the bench, or an extension's own.
-ghost use Rattle.std.specs.Prelude.{◌≡◌, ◌≢◌, ◌+◌, ◌++◌, ◌<◌, ◌≤◌, ℕ, List, true, false, length, flat_map};
+ghost use Rattle.std.specs.Prelude.{◌≡◌, ◌≢◌, ◌↔◌, ◌+◌, ◌++◌, ◌<◌, ◌≤◌, ℕ, List, Some, IsTrue, true, false, length, flat_map, MatchBool};
+ghost use Rattle.std.specs.List.{AllByRecursion};
 ghost use Rattle.std.specs.Io.KnownBytes.{Consumes, IsAtEnd};
 ghost use Rattle.bench.specs.declared.benches.TheConstants.{MOST_MESSAGES};
-ghost use Rattle.line_extensions.specs.Desks.{world};
+ghost use Rattle.line_extensions.specs.Desks.{World, world};
+ghost use Rattle.line_extensions.specs.Trace.{StepRecord};
 ghost use Rattle.line_extensions.specs.declared.extension.Next.{Next as TheNext};
 ghost use Rattle.line_runs.specs.Lines.{ended};
-ghost use Rattle.trace_extensions.specs.Places.{place};
+ghost use Rattle.trace_extensions.specs.Exact.{HasNext, IsMet, MayAnswer};
+ghost use Rattle.trace_extensions.specs.Fits.{IsOpen, IsText};
+ghost use Rattle.trace_extensions.specs.Places.{Place, place};
 ghost use Rattle.trace_extensions.specs.Takes.{AtEachSeen};
 ghost use Rattle.trace_bench.specs.Seeing.{IsReady, audit_of, keeps};
 ghost use Rattle.trace_extensions.specs.Rates.{left_of};
@@ -22,6 +26,7 @@ use crate::papers::{Papers, SideVerdict};
 use crate::plain::{answer, miss};
 use crate::rates::RatesLeft;
 use crate::stopping::{own_begun, own_unbegun};
+use crate::transcript::Transcript;
 use bench_base::events::Event;
 use bench_base::stream::{Sink, Source};
 use line_extensions::{Extension, Next, ended_by};
@@ -38,6 +43,25 @@ use trace_runs::Input;
 /// Judges the lines of a script that are events of a bench, or an extension's own.
 pub struct AtReport<R, D> {
     of: PhantomData<(R, D)>,
+}
+
+// Whether the extension's storage failed.
+fn is_stop(next: &Next) -> bool
+    ensures { IsTrue result ↔ (next.now ≡ TheNext.Stop) }
+{
+    matches!(next, Next::Stop)
+}
+
+// Notes the answer of an own line in the transcript, if it is one.
+fn note_answer<D: Extension>(
+    alloc: Global,
+    desk: &D,
+    is_answer: bool,
+    transcript: &mut Transcript,
+) {
+    if is_answer {
+        transcript.answered(alloc, desk);
+    }
 }
 
 // Takes the steps of an own line of this number, by what the report has for it, and compares the answer: whether it is the same.
@@ -67,7 +91,15 @@ fn own_fits<R: Source, D: TracedExtension>(
         × EndsInOwn ⟦<D as Extension>⟧ (audit_of auditor.old) (left_of rates.old) desk.old first (ended answer.now ++ rest)
         (audit_of auditor.new) desk.new }
     ensures in_own { result ≡ false → (n : ℕ) → papers.new.verdict ≢ Verdict.StoppedInOwn n }
+    ensures only { AtEachSeen (audit_of auditor.old) (λ τ H. (mid : World Place D.View) (more : List (List ℕ)) (told : List ℕ)
+        (steps : List StepRecord)
+        → MayAnswer D.model D.Fails τ (world (place H (left_of rates.old)) (D.view desk.old)) mid first answer.now more steps
+        → ⟦<ReadAhead<R> as Source>⟧.left papers.old.report ≡ Some (flat_map ended more ++ told)
+        → MatchBool result (IsMet D.view τ (audit_of auditor.new) (left_of rates.new) desk.new mid
+        × (⟦<ReadAhead<R> as Source>⟧.left papers.new.report ≡ Some told)) (IsOpen papers.new.verdict)) }
+    ensures texts { result ≡ true → IsText answer.now → AllByRecursion IsText (D.texts desk.new) }
 {
+    D::laws();
     match ask_all(
         alloc,
         auditor,
@@ -83,9 +115,8 @@ fn own_fits<R: Source, D: TracedExtension>(
         }
         Ok(Next::Say) => {
             let fits = answer_fits(number, desk, answer, papers);
-            if fits || matches!(papers.verdict, SideVerdict::Stopped(_)) {
-                papers.transcript.answered(alloc, desk);
-            }
+            let is_answer = fits | papers.has_stopped();
+            note_answer(alloc, desk, is_answer, &mut papers.transcript);
             fits
         }
         Ok(Next::Stop | Next::Step(_)) => {
@@ -121,6 +152,13 @@ fn own_line<R: Source, D: TracedExtension>(
     ensures in_own { result ≡ false → (n : ℕ) → papers.new.verdict ≡ Verdict.StoppedInOwn n → ReadsInOwn ⟦<D as Extension>⟧ (audit_of auditor.old)
         (left_of rates.old) desk.old first (⟦<ReadAhead<R> as Source>⟧.left papers.old.report) (audit_of auditor.new) desk.new
         (⟦<ReadAhead<R> as Source>⟧.left papers.new.report) }
+    ensures only { AtEachSeen (audit_of auditor.old) (λ τ H. (mid : World Place D.View) (line : List ℕ) (more : List (List ℕ)) (told : List ℕ)
+        (steps : List StepRecord)
+        → MayAnswer D.model D.Fails τ (world (place H (left_of rates.old)) (D.view desk.old)) mid first line more steps
+        → HasNext (⟦<ReadAhead<R> as Source>⟧.left papers.old.report) line (flat_map ended more ++ told)
+        → MatchBool result (IsMet D.view τ (audit_of auditor.new) (left_of rates.new) desk.new mid
+        × (⟦<ReadAhead<R> as Source>⟧.left papers.new.report ≡ Some told)) (IsOpen papers.new.verdict)) }
+    ensures texts { result ≡ true → AllByRecursion IsText (D.texts desk.new) }
 {
     let mut buf = [0; 600];
     match read_line(&mut papers.report, &mut buf) {
@@ -176,11 +214,11 @@ impl<R: Source, D: TracedExtension> LineHandler for AtReport<R, D> {
 
     ghost lines = { audit_lines ⟦<D as Extension>⟧ };
 
-    ghost Does = { DidAudit ⟦<D as Extension>⟧ };
+    ghost Does = { DidAudit ⟦<D as Extension>⟧ D.view D.model };
 
     ghost Leaves = { AuditLeaves };
 
-    ghost chain = { audit_done ⟦<D as Extension>⟧ };
+    ghost chain = { audit_done ⟦<D as Extension>⟧ D.view D.model };
 
     ghost fits = { audit_fits ⟦<D as Extension>⟧ D.alone };
 
@@ -194,6 +232,7 @@ impl<R: Source, D: TracedExtension> LineHandler for AtReport<R, D> {
         papers: &mut Papers<R>,
         _report: &mut K,
     ) -> Option<SideStatus> {
+        D::laws();
         papers.line = number;
         papers.transcript.begin(number, line);
         if is_skipped(line) {
@@ -211,6 +250,11 @@ impl<R: Source, D: TracedExtension> LineHandler for AtReport<R, D> {
                 Some(SideStatus::Stopped)
             }
             Ok(Some(first)) => {
+                // The audit's own storage has no room for more.
+                if is_stop(&first) {
+                    papers.end(SideVerdict::Memory);
+                    return Some(SideStatus::Stopped);
+                }
                 if own_line(alloc, number, first, desk, auditor, rates, papers) {
                     None
                 } else {

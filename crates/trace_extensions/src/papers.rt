@@ -19,6 +19,8 @@ pub enum SideVerdict {
     StoppedInOwn(u32),
     /// The same, if no reach is given for the line: no later run is judged.
     InDoubt(u32),
+    /// The reach says that nothing was begun of this line, but the report goes on there.
+    PastReach(u32),
     /// The report has another answer to this line than those that it may get.
     Wrong(u32),
     /// The event of this line, or a step of an own line, has forged bytes.
@@ -105,6 +107,11 @@ impl<R: Source> Papers<R> {
             Some(reach) if reach.line == line => reach.steps,
             _ => None,
         }
+    }
+
+    // Whether the report ended before the line end of an answer of which it is known what was done.
+    pub(crate) fn has_stopped(&self) -> bool {
+        matches!(self.verdict, SideVerdict::Stopped(_))
     }
 
     // Ends the audit with this verdict.

@@ -1,9 +1,12 @@
 //! The line of an event that the extension leaves to the bench.
-ghost use Rattle.std.specs.Prelude.{◌≡◌, ◌≢◌, ◌+◌, ◌<◌, ◌≤◌, ℕ, length, take, IfSome, IfNone};
+ghost use Rattle.std.specs.Prelude.{◌≡◌, ◌≢◌, ◌⊎◌, ◌+◌, ◌<◌, ◌≤◌, ℕ, List, length, take, IfSome, IfNone};
 ghost use Rattle.std.specs.Io.KnownBytes.{Consumes};
 ghost use Rattle.bench_base.specs.Events.{IsWholeEvent};
 ghost use Rattle.bench.specs.declared.benches.TheConstants.{MOST_MESSAGES};
-ghost use Rattle.line_runs.specs.Lines.{ended};
+ghost use Rattle.line_runs.specs.Lines.{IsOneLine, ended};
+ghost use Rattle.trace_bench.specs.Stopping.{IsPrefixOf};
+ghost use Rattle.trace_extensions.specs.Exact.{EachReply, HasNext, IsOpenMiss};
+ghost use Rattle.trace_extensions.specs.Fits.{IsOpen};
 ghost use Rattle.trace_bench.specs.Seeing.{IsReady, audit_of, keeps};
 ghost use Rattle.trace_extensions.specs.Rates.{left_of};
 ghost use Rattle.trace_extensions.specs.Takes.{TakesLine, IsBegunAt, EndsWithin};
@@ -28,6 +31,7 @@ impl Miss {
     fn verdict(&self, number: u32) -> SideVerdict
         ensures unstopped { (n : ℕ) → result ≢ Verdict.Stopped n }
         ensures in_own { (n : ℕ) → result ≢ Verdict.StoppedInOwn n }
+        ensures open { IsOpenMiss self.now → IsOpen result }
     {
         match self {
             Miss::Wrong(_) => SideVerdict::Wrong(number),
@@ -43,6 +47,7 @@ pub(crate) fn miss<R: Source>(papers: &mut Papers<R>, number: u32, miss: Miss)
     ensures report { papers.new.report ≡ papers.old.report }
     ensures unstopped { (n : ℕ) → papers.new.verdict ≢ Verdict.Stopped n }
     ensures in_own { (n : ℕ) → papers.new.verdict ≢ Verdict.StoppedInOwn n }
+    ensures open { IsOpenMiss miss → IsOpen papers.new.verdict }
 {
     if let Miss::Wrong(due) = &miss {
         papers.due = write_reply(due);
@@ -70,6 +75,8 @@ fn stopped<R: Source>(
     ensures begun { (n : ℕ) → papers.new.verdict ≡ Verdict.Stopped n
         → IsBegunAt event.now prefix.now (left_of rates.now) (audit_of auditor.old) (audit_of auditor.new) × (length prefix.now ≤ 256) }
     ensures in_own { (n : ℕ) → papers.new.verdict ≢ Verdict.StoppedInOwn n }
+    ensures missed { EachReply event.now (left_of rates.now) (audit_of auditor.old) (λ text. IsPrefixOf prefix.now text)
+        (IsOpen papers.new.verdict ⊎ (length prefix.now ≤ 256)) }
 {
     let open = open_in(event, due_mark(auditor, event), prefix);
     match take_prefix(alloc, auditor, rates, event, prefix) {
@@ -105,6 +112,8 @@ fn heard<T: Tell, R: Source>(
         (left_of rates.old) (left_of rates.new)) }
     ensures unstopped { IfNone result ((n : ℕ) → papers.new.verdict ≢ Verdict.Stopped n) }
     ensures in_own { IfNone result ((n : ℕ) → papers.new.verdict ≢ Verdict.StoppedInOwn n) }
+    ensures missed { IfNone result (EachReply event.now (left_of rates.old) (audit_of auditor.old) (λ text. text ≡ line.now)
+        (IsOpen papers.new.verdict)) }
 {
     let given = given_in(event, due_mark(auditor, event), line);
     match take(alloc, auditor, rates, event, line) {
@@ -151,10 +160,13 @@ pub(crate) fn answer<T: Tell, R: Source>(
         (left_of rates.old) (left_of rates.new)
         × Consumes (⟦<ReadAhead<R> as Source>⟧.left papers.old.report) (⟦<ReadAhead<R> as Source>⟧.left papers.new.report)
         (ended (take x.len buf.new))) }
+    ensures one { IfSome result (λ x. IsOneLine (take x.len buf.new)) }
     ensures begun { IfNone result ((n : ℕ) → papers.new.verdict ≡ Verdict.Stopped n
         → EndsWithin event.now (left_of rates.old) (audit_of auditor.old) (audit_of auditor.new)
         (⟦<ReadAhead<R> as Source>⟧.left papers.old.report) (⟦<ReadAhead<R> as Source>⟧.left papers.new.report)) }
     ensures in_own { IfNone result ((n : ℕ) → papers.new.verdict ≢ Verdict.StoppedInOwn n) }
+    ensures missed { IfNone result (EachReply event.now (left_of rates.old) (audit_of auditor.old)
+        (λ text. (told : List ℕ) × HasNext (⟦<ReadAhead<R> as Source>⟧.left papers.old.report) text told) (IsOpen papers.new.verdict)) }
 {
     match read_line(&mut papers.report, buf) {
         LineRead::Line(len, true) => {

@@ -1,7 +1,8 @@
 //! The audit of one run with an extension.
-ghost use Rattle.std.specs.Prelude.{◌≡◌, ◌≢◌, ℕ, []};
+ghost use Rattle.std.specs.Prelude.{◌≡◌, ◌≢◌, ◌⊎◌, ℕ, [], Some};
 ghost use Rattle.std.specs.Io.KnownBytes.{Consumes, IsAtEnd};
 ghost use Rattle.trace_bench.specs.Seeing.{IsReady, audit_of, keeps};
+ghost use Rattle.trace_extensions.specs.Fits.{FitsIfLawful, LawfulIfFits, IsOpen};
 ghost use Rattle.trace_extensions.specs.Sides.{MayHaveRun, MayHaveStopped};
 ghost use Rattle.trace_extensions.specs.declared.papers.SideVerdict.{SideVerdict as Verdict};
 ghost use Rattle.trace_runs.specs.Verdicts.{status_of};
@@ -28,11 +29,13 @@ fn over<R: Source>(papers: &mut Papers<R>, end: Ending) -> SideVerdict
         × Consumes (⟦<ReadAhead<R> as Source>⟧.left papers.old.report) (⟦<ReadAhead<R> as Source>⟧.left papers.new.report) [] }
     ensures unstopped { (n : ℕ) → result ≢ Verdict.Stopped n }
     ensures in_own { (n : ℕ) → result ≢ Verdict.StoppedInOwn n }
+    ensures only { ⟦<ReadAhead<R> as Source>⟧.left papers.old.report ≡ Some [] → (result ≡ Verdict.Lawful end) ⊎ IsOpen result }
 {
     let mut buf = [0; 600];
     match read_line(&mut papers.report, &mut buf) {
         LineRead::End => SideVerdict::Lawful(end),
-        LineRead::Line(_, _) | LineRead::Long => SideVerdict::More(papers.line, end),
+        LineRead::Line(_, _) => SideVerdict::More(papers.line, end),
+        LineRead::Long => SideVerdict::More(papers.line, end),
         LineRead::Fault => SideVerdict::Unread(Input::Report),
     }
 }
@@ -42,6 +45,7 @@ fn unlawful(verdict: SideVerdict) -> SideVerdict
     ensures unlawful { (e : TheEnding) → result ≢ Verdict.Lawful e }
     ensures stopped { (n : ℕ) → result ≡ Verdict.Stopped n → verdict ≡ Verdict.Stopped n }
     ensures in_own { (n : ℕ) → result ≡ Verdict.StoppedInOwn n → verdict ≡ Verdict.StoppedInOwn n }
+    ensures open { IsOpen verdict → IsOpen result }
 {
     match verdict {
         SideVerdict::Lawful(_) => SideVerdict::Memory,
@@ -52,7 +56,8 @@ fn unlawful(verdict: SideVerdict) -> SideVerdict
 /// Judges a run with an extension, over what the auditor has of the runs before and what the extension has.
 ///
 /// If it is lawful, a bench and the extension may have written this report, from whatever history the auditor had, and the auditor sees what they leave.
-/// No clause says that a run that may have been so is found lawful. If it was stopped, the whole lines of the report may have been written so, and the
+/// It is lawful if and only if some run fits the script and the report, by the model of the extension, unless the verdict leaves that open: so a run that
+/// is called wrong, forged or longer than its script is none. If it was stopped, the whole lines of the report may have been written so, and the
 /// next line of the script begun: the auditor sees what that may leave, and the extension is as it found it. `InDoubt` says nothing of either.
 pub fn judge_side<S: Source, R: Source, D: TracedExtension>(
     alloc: Global,
@@ -77,7 +82,12 @@ pub fn judge_side<S: Source, R: Source, D: TracedExtension>(
         (⟦<ReadAhead<S> as Source>⟧.left script.old) (⟦<ReadAhead<S> as Source>⟧.left script.new)
         (⟦<ReadAhead<R> as Source>⟧.left papers.old.report) (⟦<ReadAhead<R> as Source>⟧.left papers.new.report)
         rates.items desk.old desk.new (audit_of auditor.old) (audit_of auditor.new) }
+    ensures fits { FitsIfLawful D.model (⟦<ReadAhead<S> as Source>⟧.left script.old) (⟦<ReadAhead<R> as Source>⟧.left papers.old.report) rates.items
+        (D.view desk.old) (D.view desk.new) (audit_of auditor.old) (audit_of auditor.new) result }
+    ensures complete { LawfulIfFits D.model (⟦<ReadAhead<S> as Source>⟧.left script.old) (⟦<ReadAhead<R> as Source>⟧.left papers.old.report) rates.items
+        (D.view desk.old) (D.view desk.new) (audit_of auditor.old) (audit_of auditor.new) result }
 {
+    D::laws();
     auditor.begin();
     let mut left = RatesLeft::new(rates);
     let mut nothing = MemSink::new(Vec::new(alloc), Vec::new(alloc), Vec::new(alloc));

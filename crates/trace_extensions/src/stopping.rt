@@ -5,6 +5,7 @@ ghost use Rattle.bench.specs.declared.benches.TheConstants.{MOST_MESSAGES};
 ghost use Rattle.bench_base.specs.Events.{IsWholeEvent};
 ghost use Rattle.line_extensions.specs.Wants.{MayAsk};
 ghost use Rattle.trace_bench.specs.Seeing.{IsReady, Sees, audit_of, keeps};
+ghost use Rattle.trace_extensions.specs.Fits.{IsOpen};
 ghost use Rattle.trace_extensions.specs.Rates.{left_of};
 ghost use Rattle.trace_extensions.specs.Takes.{AtEachSeen, IsBegunAt};
 ghost use Rattle.trace_extensions.specs.Worlds.{EndsInOwn};
@@ -33,12 +34,13 @@ pub(crate) fn own_unbegun<R: Source>(number: u32, papers: &mut Papers<R>)
     ensures in_own { (n : ℕ) → papers.new.verdict ≡ Verdict.StoppedInOwn n
         → Consumes (⟦<ReadAhead<R> as Source>⟧.left papers.old.report) (⟦<ReadAhead<R> as Source>⟧.left papers.new.report) []
         × IsAtEnd (⟦<ReadAhead<R> as Source>⟧.left papers.new.report) }
+    ensures open { IsOpen papers.new.verdict }
 {
     papers.may_reach_more = true;
     let mut buf = [0; 600];
     match read_line(&mut papers.report, &mut buf) {
         LineRead::End => papers.end(SideVerdict::StoppedInOwn(number)),
-        LineRead::Line(_, _) | LineRead::Long => papers.end(SideVerdict::Wrong(number)),
+        LineRead::Line(_, _) | LineRead::Long => papers.end(SideVerdict::PastReach(number)),
         LineRead::Fault => papers.end(SideVerdict::Unread(Input::Report)),
     }
 }

@@ -6,7 +6,9 @@ ghost use Rattle.ledger_moves.specs.Histories.{Unforged};
 ghost use Rattle.trace_bench.specs.Forging.{AtHistory, IsSame};
 ghost use Rattle.trace_bench.specs.Seeing.{IsReady, audit_of, keeps};
 ghost use Rattle.trace_extensions.specs.Rates.{left_of};
-ghost use Rattle.trace_extensions.specs.Takes.{TakesLine, IsDueAt, IsBegunAt};
+ghost use Rattle.trace_bench.specs.Stopping.{IsPrefixOf};
+ghost use Rattle.trace_extensions.specs.Exact.{IsOpenMiss, EachReply};
+ghost use Rattle.trace_extensions.specs.Takes.{AtEachSeen, TakesLine, IsDueAt, IsBegunAt};
 ghost use Rattle.trace_extensions.specs.declared.taking.Miss.{Miss as TheMiss};
 
 use crate::rates::RatesLeft;
@@ -32,6 +34,7 @@ pub(crate) fn admit(alloc: Global, auditor: &mut Auditor, event: &Event) -> Resu
     ensures kept { keeps (audit_of auditor.new) ≡ keeps (audit_of auditor.old) }
     ensures same { IsSame (audit_of auditor.old) (audit_of auditor.new) }
     ensures unforged { OnOk result (AtHistory (audit_of auditor.new) (λ H. Unforged event.now H)) }
+    ensures missed { IfErr result (λ why. AtHistory (audit_of auditor.old) (λ H. Unforged event.now H → IsOpenMiss why)) }
 {
     if index(alloc, auditor, event).is_err() {
         return Err(Miss::Memory);
@@ -59,6 +62,8 @@ pub(crate) fn take<T: Tell>(
     ensures kept { keeps (audit_of auditor.new) ≡ keeps (audit_of auditor.old) }
     ensures takes { IfOk result (λ told. TakesLine T.IsOf told event.now line.now (audit_of auditor.old) (audit_of auditor.new)
         (left_of rates.old) (left_of rates.new)) }
+    ensures missed { IfErr result (λ why. EachReply event.now (left_of rates.old) (audit_of auditor.old) (λ text. text ≡ line.now)
+        (IsOpenMiss why)) }
 {
     match admit(alloc, auditor, event) {
         Ok(()) => {}
@@ -91,6 +96,7 @@ pub(crate) fn due_reply(
     ensures unsent { (audit_of auditor.new).messages ≡ (audit_of auditor.old).messages }
     ensures kept { keeps (audit_of auditor.new) ≡ keeps (audit_of auditor.old) }
     ensures due { IfOk result (λ due. IsDueAt event.now due (left_of rates.now) (audit_of auditor.old) (audit_of auditor.new)) }
+    ensures missed { IfErr result (λ why. AtEachSeen (audit_of auditor.old) (λ τ H. Unforged event.now H → IsOpenMiss why)) }
 {
     match admit(alloc, auditor, event) {
         Ok(()) => {}
@@ -119,6 +125,8 @@ pub(crate) fn take_prefix(
     ensures begun { OnOk result (IsBegunAt event.now prefix.now (left_of rates.now) (audit_of auditor.old) (audit_of auditor.new)) }
     ensures short { IsOk result → length prefix.now ≤ 256 }
     ensures forged { IfErr result (λ why. why ≡ TheMiss.Forged → IsSame (audit_of auditor.old) (audit_of auditor.new)) }
+    ensures missed { IfErr result (λ why. EachReply event.now (left_of rates.now) (audit_of auditor.old) (λ text. IsPrefixOf prefix.now text)
+        (IsOpenMiss why)) }
 {
     match admit(alloc, auditor, event) {
         Ok(()) => {}

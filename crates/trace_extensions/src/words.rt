@@ -1,10 +1,17 @@
 //! The words of the runs that can be judged so: claims, departments, manifests and statements.
-ghost use Rattle.std.specs.Prelude.{◌≡◌, ◌<◌, ◌^◌, IfSome, None, false, length, replicate};
-ghost use Rattle.centre_statement.specs.Desk.{fresh, view_of};
+ghost use Rattle.std.specs.Prelude.{◌≡◌, ◌<◌, ◌^◌, IfSome, IfNone, None, false, length, replicate};
+ghost use Rattle.bench_base.specs.declared.events.Reply.{Reply as TheReply};
+ghost use Rattle.centre_statement.specs.Desk.{View, fresh, view_of};
 ghost use Rattle.host_departments.specs.Fresh.{KeepsNone as NoDepartments};
 ghost use Rattle.mail_manifest.specs.View.{listing_of};
 ghost use Rattle.nv_model.specs.Moments.{Only};
+ghost use Rattle.script_text.specs.Texts.{text_of};
 ghost use Rattle.spoil_claims.specs.Fresh.{KeepsNone};
+ghost use Rattle.trace_bench.specs.Prefixes.{IsFailure};
+ghost use Rattle.trace_extensions.specs.ClaimsModel.{Standing, ClaimFails, claims_model, claims_view};
+ghost use Rattle.trace_extensions.specs.DepartmentsModel.{Kept, DepartmentsFail, departments_model, departments_view};
+ghost use Rattle.trace_extensions.specs.ManifestModel.{ManifestView, ManifestFails, manifest_model, manifest_view, no_piece_front};
+ghost use Rattle.trace_extensions.specs.StatementModel.{Fails, statement_model};
 
 use crate::extension::TracedExtension;
 use bench_base::events::Reply;
@@ -99,7 +106,10 @@ pub fn no_manifest() -> Checker
 }
 
 // The failure of this node that this text reports, if it does.
-fn failure_of(node: &Node, text: &[u8]) -> Option<Reply> {
+fn failure_of(node: &Node, text: &[u8]) -> Option<Reply>
+    ensures found { IfSome result (λ reply. (text.now ≡ text_of reply) × IsFailure reply node.now) }
+    ensures none { IfNone result ((reply : TheReply) → text.now ≡ text_of reply → IsFailure reply node.now → ⊥) }
+{
     let power = Reply::Power(*node);
     if is_told(&power, text) {
         return Some(power);
@@ -127,7 +137,9 @@ fn says<D: Extension>(desk: &D, front: &[u8]) -> bool {
 }
 
 // What the answer of a check begins with if the scan of the piece of this number fails.
-fn no_piece(number: u32) -> Line {
+fn no_piece(number: u32) -> Line
+    ensures { result ≡ no_piece_front number }
+{
     let mut front = Line::new();
     front.put(b"manifest no piece");
     front.number(number);
@@ -137,6 +149,14 @@ fn no_piece(number: u32) -> Line {
 
 /// Its one step is a scan, so the answer to a claim may be a failure of the verifier.
 impl<N: Nv> TracedExtension for Desk<N> {
+    ghost View = { Standing };
+
+    ghost view = { λ k. claims_view k };
+
+    ghost model = { claims_model };
+
+    ghost Fails = { ClaimFails };
+
     fn failure(_step: u32, line: &[u8]) -> Option<Reply> {
         failure_of(&Node::Verifier, line)
     }
@@ -152,10 +172,20 @@ impl<N: Nv> TracedExtension for Desk<N> {
     fn reply_in(_step: u32, prefix: &[u8]) -> Option<&[u8]> {
         Some(prefix)
     }
+
+    fn laws() {}
 }
 
 /// Their one step is the message of a job, so the answer to an assignment may be a failure of the host.
 impl<N: Nv> TracedExtension for Departments<N> {
+    ghost View = { Kept };
+
+    ghost view = { λ k. departments_view k };
+
+    ghost model = { departments_model };
+
+    ghost Fails = { DepartmentsFail };
+
     fn failure(_step: u32, line: &[u8]) -> Option<Reply> {
         failure_of(&Node::Host, line)
     }
@@ -171,10 +201,20 @@ impl<N: Nv> TracedExtension for Departments<N> {
     fn reply_in(_step: u32, prefix: &[u8]) -> Option<&[u8]> {
         Some(prefix)
     }
+
+    fn laws() {}
 }
 
 /// Each step is the scan of a piece, so the answer to a check may report a failure of the verifier at that piece.
 impl TracedExtension for Checker {
+    ghost View = { ManifestView };
+
+    ghost view = { λ k. manifest_view k };
+
+    ghost model = { manifest_model };
+
+    ghost Fails = { ManifestFails };
+
     fn failure(step: u32, line: &[u8]) -> Option<Reply> {
         match line.strip_prefix(no_piece(step).as_slice()) {
             Some(text) => failure_of(&Node::Verifier, text),
@@ -200,10 +240,20 @@ impl TracedExtension for Checker {
         }
         prefix.strip_prefix(front.as_slice())
     }
+
+    fn laws() {}
 }
 
 /// Its steps ask the centre for a balance, which commits nothing, so no node fails in them.
 impl TracedExtension for StatementDesk {
+    ghost View = { View };
+
+    ghost view = { λ k. view_of k };
+
+    ghost model = { statement_model };
+
+    ghost Fails = { Fails };
+
     fn failure(_step: u32, _line: &[u8]) -> Option<Reply> {
         None
     }
@@ -216,4 +266,6 @@ impl TracedExtension for StatementDesk {
     fn reply_in(_step: u32, prefix: &[u8]) -> Option<&[u8]> {
         Some(prefix)
     }
+
+    fn laws() {}
 }

@@ -1,9 +1,23 @@
-use Rattle.std.proofs.Common.{◌-◌, ◌+◌, ◌++◌, ℕ, List, flat_map, sym, subst, take, drop, arith}
+use Rattle.std.proofs.Common.{◌≡◌, ◌⊎◌, inl, inr, ◌-◌, ◌+◌, ◌++◌, ℕ, List, Option, Some, flat_map, sym, subst, take, drop, arith}
 use Rattle.std.specs.Io.KnownBytes.{Consumes, IsAtEnd, prepend_known}
 use Rattle.line_runs.specs.Lines.{ended}
 use Rattle.trace_bench.specs.Stopping.{IsPrefixOf}
 use Rattle.trace_extensions.proofs.Compared.{ReadTo, read_more, read_within}
+use Rattle.trace_extensions.specs.Exact.{HasNext}
+use Rattle.trace_extensions.specs.Fits.{IsOpen, IsText}
+use Rattle.trace_extensions.specs.declared.{comparing.Compared.Compared, papers.SideVerdict.SideVerdict}
+use Rattle.trace_extensions.proofs.Texts.{LeftFrom, next_text, left_more, left_all, lines_more, lines_all}
 use Rattle.trace_extensions.proofs.comparing.rest_fits.Goals as goal
+
+-- it was the same, and not a fault
+same_next : (x : Compared) (b : Option (List ℕ)) (left : List ℕ) → x ≡ Compared.Same → ((x ≡ Compared.Same) × (b ≡ Some left)) ⊎ (x ≡ Compared.Fault) → b ≡ Some left
+same_next x b left is (inl w) = w.1
+same_next x b left is (inr fault) = absurd (cc (is, fault))
+
+-- it was no fault, or the verdict leaves it open
+other : (x : Compared) (P : Type 0) (v : SideVerdict) → (x ≡ Compared.Same → ⊥) → (x ≡ Compared.Fault → IsOpen v) → ((x ≡ Compared.Same) × P) ⊎ (x ≡ Compared.Fault) → IsOpen v
+other x P v not_same fault (inl w) = absurd (not_same w.0)
+other x P v not_same fault (inr is) = fault is
 
 pub loop-at-preserved : goal.loop-at-preserved
 loop-at-preserved g c = record {
@@ -13,6 +27,15 @@ loop-at-preserved g c = record {
       (prepend_known (take (r.end - r.at) (drop r.at r.buffer.items)) (g.R.Source.left r.inner))) (sym c.is_same.ensures.report)
       (read_more (g.D.Extension.texts c.args.desk.now) c.loop-at.at c.put.new.line c.as_slice.result.now _ _ _ c.put.ensures.text c.as_slice.ensures c.loop-at.invariant.read
       (c.compare_next-compared.ensures.same (c.is_same.ensures.same c.if-not-is_same.false)));
+  only = subst (λ r. LeftFrom (g.D.Extension.texts c.args.desk.now) (c.loop-at.at + 1)
+      (prepend_known (take (c.args.papers.now.report.end - c.args.papers.now.report.at) (drop c.args.papers.now.report.at c.args.papers.now.report.buffer.items)) (g.R.Source.left c.args.papers.now.report.inner))
+      (prepend_known (take (r.end - r.at) (drop r.at r.buffer.items)) (g.R.Source.left r.inner))) (sym c.is_same.ensures.report)
+      (left_more (g.D.Extension.texts c.args.desk.now) c.loop-at.at _ _ (λ first more told are each is.
+      let n = next_text (g.D.Extension.texts c.args.desk.now) c.loop-at.at c.put.new.line _ _ c.loop-at.invariant.some c.put.ensures.text c.loop-at.invariant.only first more told are each is in
+      same_next _ _ _ (c.is_same.ensures.same c.if-not-is_same.false) (c.compare_next-compared.ensures.only _ (subst (λ (t : List ℕ). IsText t) (sym c.as_slice.ensures) n.is)
+      (subst (λ (t : List ℕ). HasNext (prepend_known (take (c.loop-at.papers.report.end - c.loop-at.papers.report.at) (drop c.loop-at.papers.report.at c.loop-at.papers.report.buffer.items)) (g.R.Source.left c.loop-at.papers.report.inner)) t (flat_map ended (drop c.loop-at.at more) ++ told)) (sym c.as_slice.ensures) n.next))));
+  lines = lines_more (g.D.Extension.texts c.args.desk.now) c.loop-at.at c.put.new.line c.loop-at.invariant.some c.put.ensures.text
+      (subst (λ (t : List ℕ). IsText t) c.as_slice.ensures (c.compare_next-compared.ensures.text (c.is_same.ensures.same c.if-not-is_same.false))) c.loop-at.invariant.lines;
 }
 
 pub returns-then-not-is_same-clause-open : goal.returns-then-not-is_same-clause-open
@@ -25,3 +48,17 @@ returns-then-not-is_same-clause-open g c = λ no n stop.
     (prepend_known (take (r.end - r.at) (drop r.at r.buffer.items)) (g.R.Source.left r.inner)) rest
     × IsAtEnd (prepend_known (take (r.end - r.at) (drop r.at r.buffer.items)) (g.R.Source.left r.inner))) (sym c.is_same.ensures.report)
     (w.0, w.1, w.2, o.3)
+
+pub returns-then-not-is_same-clause-only : goal.returns-then-not-is_same-clause-only
+returns-then-not-is_same-clause-only g c = λ first more told are each is.
+    let n = next_text (g.D.Extension.texts c.args.desk.now) c.loop-at.at c.put.new.line _ _ c.loop-at.invariant.some c.put.ensures.text c.loop-at.invariant.only first more told are each is in
+    other c.compare_next-compared.result _ c.is_same.new.papers.verdict (λ same. cc (c.is_same.ensures.goes_on same, c.if-not-is_same.true)) (λ fault. rw c.if-not-is_same.true at c.is_same.ensures.fault fault) (c.compare_next-compared.ensures.only _ (subst (λ (t : List ℕ). IsText t) (sym c.as_slice.ensures) n.is)
+    (subst (λ (t : List ℕ). HasNext (prepend_known (take (c.loop-at.papers.report.end - c.loop-at.papers.report.at) (drop c.loop-at.papers.report.at c.loop-at.papers.report.buffer.items)) (g.R.Source.left c.loop-at.papers.report.inner)) t (flat_map ended (drop c.loop-at.at more) ++ told)) (sym c.as_slice.ensures) n.next))
+
+pub returns-clause-only : goal.returns-clause-only
+returns-clause-only g c = λ first more told are each is.
+    left_all (g.D.Extension.texts c.args.desk.now) c.loop-at.at _ _ (omega (arith, c.count-at-end.ensures, c.loop-at-test.false)) c.loop-at.invariant.only first more told are each is
+
+pub returns-clause-texts : goal.returns-clause-texts
+returns-clause-texts g c = λ same first more are.
+    lines_all (g.D.Extension.texts c.args.desk.now) c.loop-at.at (omega (arith, c.count-at-end.ensures, c.loop-at-test.false)) c.loop-at.invariant.lines first more are

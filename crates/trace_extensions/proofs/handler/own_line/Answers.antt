@@ -2,7 +2,12 @@ use Rattle.std.proofs.Common.{◌≡◌, ◌-◌, ◌++◌, List, [], ℕ, Bool,
 use Rattle.std.specs.Io.KnownBytes.{Consumes, IsAtEnd, prepend_known}
 use Rattle.std.proofs.KnownBytes.{Consumes-trans}
 use Rattle.line_runs.specs.Lines.{ended, IsLineIn}
+use Rattle.line_extensions.specs.Desks.{world}
+use Rattle.trace_extensions.specs.Exact.{MayAnswer}
+use Rattle.trace_extensions.specs.Places.{place}
+use Rattle.trace_extensions.specs.Rates.{left_of}
 use Rattle.trace_extensions.proofs.Compared.{cut_line, no_line}
+use Rattle.trace_extensions.proofs.Lines.{take_short, same_line, not_within, not_at_end, not_long}
 use Rattle.trace_extensions.proofs.handler.own_line.Goals as goal
 
 -- a whole line was read, and then the rest of the answer
@@ -63,3 +68,30 @@ returns-in-End-clause-in_own g c = λ no n stop.
     (prepend_known (take (r.end - r.at) (drop r.at r.buffer.items)) (g.R.Source.left r.inner)) [] × IsAtEnd (prepend_known (take (r.end - r.at) (drop r.at r.buffer.items)) (g.R.Source.left r.inner))) (sym c.own_begun-in-End.ensures.report)
     (no_line _ _ read.0 read.2.0 read.1 read.2.1)) in
     ([], same.0, same.1, c.own_begun-in-End.ensures.in_own n stop)
+
+pub returns-in-Line-default-true-clause-only : goal.returns-in-Line-default-true-clause-only
+returns-in-Line-default-true-clause-only g c = λ τ H texts history sees mid text more told steps may next.
+    let read = c.in-Line-default-true.ensures.taken in
+    let line = take c.in-Line-default-true.len c.read_line.new.buf in
+    let w = same_line _ _ text _ may.are.0.one next c.in-Line-default-true.field-1 line read.0 c.in-Line-default-true.field-1-test read.2.1 read.2.2 read.1 in
+    c.own_fits.ensures.only τ H texts history sees mid more told steps (subst (λ (l : List ℕ). MayAnswer g.D.TracedExtension.model g.D.TracedExtension.Fails τ (world (place H (left_of c.args.rates.now)) (g.D.TracedExtension.view c.args.desk.now)) mid c.args.first l more steps) (sym w.0) may) w.1
+
+pub returns-in-Line-default-false-clause-only : goal.returns-in-Line-default-false-clause-only
+returns-in-Line-default-false-clause-only g c = λ τ H texts history sees mid text more told steps may next.
+    let read = c.in-Line-default-false.ensures.taken in
+    absurd (not_within _ _ text _ may.are.0.one next c.in-Line-default-false.field-1 (take c.in-Line-default-false.len c.read_line.new.buf) read.0 c.in-Line-default-false.field-1-test read.2.1 read.2.2 read.1)
+
+pub returns-in-End-clause-only : goal.returns-in-End-clause-only
+returns-in-End-clause-only g c = λ τ H texts history sees mid text more told steps may next.
+    let read = c.in-End.ensures.taken in
+    absurd (not_at_end _ _ text _ may.are.0.one next read.0 read.2.0 read.2.1 read.1)
+
+pub returns-in-Long-clause-only : goal.returns-in-Long-clause-only
+returns-in-Long-clause-only g c = λ τ H texts history sees mid text more told steps may next.
+    let read = c.in-Long.ensures.taken in
+    absurd (not_long _ _ text _ may.are.0.one next read.0 read.2.0 read.2.1 may.are.0.short read.1)
+
+pub returns-in-Line-default-true-clause-texts : goal.returns-in-Line-default-true-clause-texts
+returns-in-Line-default-true-clause-texts g c = λ fits.
+    let read = c.in-Line-default-true.ensures.taken in
+    c.own_fits.ensures.texts fits (record { one = read.2.1; short = take_short c.in-Line-default-true.len c.read_line.new.buf read.2.0 })

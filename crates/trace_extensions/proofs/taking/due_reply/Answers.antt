@@ -10,3 +10,6 @@ returns-in-Ok-due_to-clause-due c = λ τ H texts history sees.
     let free = c.in-Ok.ensures.unforged τ H history here in
     let due = c.in-Ok-due_to.ensures.due τ H texts history free here in
     (free, subst (λ (left : List ℕ). IsDue τ H c.args.event.now left c.in-Ok-due_to.due) c.left.ensures due.0, due.1)
+
+pub returns-in-Err-clause-missed : goal.returns-in-Err-clause-missed
+returns-in-Err-clause-missed c = λ τ H texts history sees free. c.in-Err.ensures.missed τ H history sees free

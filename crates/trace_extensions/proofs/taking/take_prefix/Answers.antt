@@ -1,4 +1,8 @@
-use Rattle.std.proofs.Common.{ℕ, List, subst}
+use Rattle.std.proofs.Common.{ℕ, List, sym, subst}
+use Rattle.bench_base.specs.declared.events.Event.{Event}
+use Rattle.ledger_moves.specs.Histories.{Unforged}
+use Rattle.trace_runs.specs.Audits.{MayTell}
+use Rattle.trace_extensions.proofs.Missed.{may_get}
 use Rattle.trace_bench.specs.Seeing.{audit_of}
 use Rattle.trace_bench.specs.Stopping.{IsBegun}
 use Rattle.trace_bench.proofs.Same.{same_sees}
@@ -10,3 +14,14 @@ returns-in-Ok-stop-clause-begun c = λ τ H texts history sees.
     let free = c.in-Ok.ensures.unforged τ H history here in
     let stop = c.in-Ok-stop.ensures.stopped τ H texts history free here in
     (free, subst (λ (left : List ℕ). IsBegun τ H c.args.event.now left c.args.prefix.now (audit_of c.stop.new.auditor)) c.left.ensures stop.0)
+
+pub returns-in-Err-clause-missed : goal.returns-in-Err-clause-missed
+returns-in-Err-clause-missed c = λ τ H texts history sees d event may begins. c.in-Err.ensures.missed τ H history sees (subst (λ (e : Event). Unforged e H) event may.unforged)
+
+pub returns-in-Err-Wrong-clause-missed : goal.returns-in-Err-Wrong-clause-missed
+returns-in-Err-Wrong-clause-missed c = λ τ H texts history sees d event may begins.
+    let here = same_sees (audit_of c.args.auditor.now) (audit_of c.admit.new.auditor) c.admit.ensures.same H sees in
+    let free = c.in-Ok.ensures.unforged τ H history here in
+    let unbegun = (rw c.in-Err-Wrong.field-0-is at c.in-Err-Wrong.ensures.stopped) τ H texts history free here in
+    let tells : MayTell τ H _ d = subst (λ (left : List ℕ). MayTell τ H left d) (sym c.left.ensures) may in
+    unbegun.none d.reply (record { moves = may_get τ H c.args.event.now _ c.args.prefix.now d event tells; whole = may.whole; begins = begins })

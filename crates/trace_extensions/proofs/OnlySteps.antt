@@ -1,0 +1,154 @@
+-- A step that an own line may have been answered with is the one that the auditor took.
+use Rattle.std.proofs.Common.{◌≡◌, ◌≢◌, ◌⊎◌, inl, inr, ℕ, ◌+◌, ℤ, List, [], ◌∷◌, Option, refl, sym, ◌∙◌, ap, subst}
+use Rattle.bench_base.specs.declared.{words.Node.Node, words.Node.TheVariants.Host, words.Node.TheVariants.Verifier, events.Event.Event, events.Reply.Reply}
+use Rattle.bench_base.specs.Ledger.{Ledger, day_in}
+use Rattle.bench_base.specs.Replies.{ReplyClass, Did, class_of}
+use Rattle.bench_base.specs.Rules.{todays_rules, editions}
+use Rattle.node_turns.specs.declared.turn.Turn.{Turn}
+use Rattle.ledger_moves.specs.Tariffs.{Tariff}
+use Rattle.ledger_moves.specs.Moves.{answer}
+use Rattle.ledger_moves.specs.Histories.{History, moves}
+use Rattle.script_text.specs.Texts.{text_of}
+use Rattle.line_extensions.specs.Trace.{StepRecord}
+use Rattle.line_extensions.specs.Desks.{World, world, Asked, Asks}
+use Rattle.line_extensions.specs.declared.{extension.Extension.Ghosts, extension.Next.Next, extension.Next.TheVariants.Step, extension.Next.TheVariants.Say, extension.Next.TheVariants.Stop}
+use Rattle.trace_bench.specs.Judging.{taken_by}
+use Rattle.trace_bench.specs.Prefixes.{IsDue, IsFailure}
+use Rattle.trace_bench.specs.Seeing.{Audit, Sees}
+use Rattle.trace_runs.specs.Audits.{MayTell}
+use Rattle.trace_extensions.specs.Exact.{IsMet}
+use Rattle.trace_extensions.specs.Models.{Model, by_model, IsModelOf, IsDetermined, IsSure, IsToldOf, AreToldOf}
+use Rattle.trace_extensions.specs.Places.{Place, place, turn_at, MayStep}
+use Rattle.trace_extensions.specs.Takes.{TakesAt}
+use Rattle.trace_extensions.proofs.SameStep.{same_turn, ledgers, lefts}
+use Rattle.trace_extensions.proofs.Sure.{FailsAt, sure_reply}
+
+-- such an event takes nothing of the rates
+sure_taken : (e : Event) → IsSure e → (day : Option ℤ) (x : ReplyClass) (left : List ℕ) → taken_by e day x left ≡ []
+sure_taken e (inl s) day x left = ap (λ (f : Event). taken_by f day x left) s.2
+sure_taken e (inr (inl s)) day x left = ap (λ (f : Event). taken_by f day x left) s.1
+sure_taken e (inr (inr s)) day x left = ap (λ (f : Event). taken_by f day x left) s.1
+
+-- if it fails at its node, a node fails
+failing : (e : Event) (x : Reply) → IsSure e → FailsAt e x → ((m : Node) → IsFailure x m → ⊥) → ⊥
+failing e x (inl s) fails fine = fine Verifier (subst (λ (y : Event). FailsAt y x) s.2 fails)
+failing e x (inr (inl s)) fails fine = fine Host (subst (λ (y : Event). FailsAt y x) s.1 fails)
+failing e x (inr (inr s)) fails fine = subst (λ (y : Event). FailsAt y x) s.1 fails
+
+-- the reply that was chosen has the text of the one that came
+pub chosen_text : (Fails : ℕ → List ℕ → Reply → Type 0) (number : ℕ) (line : List ℕ) (τ : Tariff) (H : Ledger) (left : List ℕ) (d : StepRecord) (e : Event) (due reply : Reply) → d.event ≡ e
+    → MayTell τ H left d → IsToldOf Fails number line d → IsDue τ H e left due → ((x : Reply) → Fails number line x → reply ≡ x) → (((x : Reply) → Fails number line x → ⊥) → reply ≡ due) → reply ≡ d.reply
+chosen_text Fails number line τ H left d e due reply event may told due_is failed fine = by told.told
+  where
+    by : Fails number line d.reply ⊎ (((x : Reply) → Fails number line x → ⊥) × ((m : Node) → IsFailure d.reply m → ⊥)) → reply ≡ d.reply
+    by (inl fails) = failed d.reply fails
+    by (inr (none, no_failure)) = elim (sure_reply τ H left d told.sure may) [
+      | inl is ↦
+          let taken : d.text ≡ taken_by e (day_in H) Did left =
+          may.takes ∙ sure_taken d.event told.sure (day_in H) (class_of d.reply) left ∙ sym (sure_taken e (subst (λ (x : Event). IsSure x) event told.sure) (day_in H) Did left) in
+          fine none ∙ due_is ∙ ap (λ (t : List ℕ). answer τ todays_rules H e t) (sym taken) ∙ ap (λ (x : Event). answer τ todays_rules H x d.text) (sym event) ∙ sym is
+      | inr fails ↦ absurd (failing d.event d.reply told.sure fails no_failure)
+    ]
+
+module _ {K T : Type 0} (k : Ghosts K T) {V : Type 0} (view : K → V) (m : Model V) (modelled : IsModelOf k view m) (det : IsDetermined m) where
+  -- one step, which the extension heard of
+  pub taken_step : (τ : Tariff) (H : Ledger) (e : Event) (line left left1 : List ℕ) (new : Audit) (desk desk1 : K) (next more : Next) (mid : World Place V) (d f : StepRecord) → History τ editions H
+      → Asked (by_model m) (MayStep τ) (world (place H left) (view desk)) mid (Step e) d more → line ≡ text_of d.reply → TakesAt τ H e line new left left1 f → k.Goes desk (turn_at τ H f) next desk1 → next ≢ Stop
+      → (more ≡ next) × IsMet view τ new left1 desk1 mid
+  taken_step τ H e line left left1 new desk desk1 next more mid d f history asked is took goes on =
+      let event : f.event ≡ d.event = took.event ∙ same_event asked.asks in
+      let text : text_of f.reply ≡ text_of d.reply = took.text ∙ is in
+      let may = asked.did.may in
+      let turn : turn_at τ H f ≡ asked.turn = same_turn τ H left f d took.may may event text ∙ sym asked.did.turn_is in
+      let ours : m.Goes (view desk) asked.turn next (view desk1) = subst (λ (t : Turn). m.Goes (view desk) t next (view desk1)) turn (modelled.goes desk desk1 (turn_at τ H f) next goes on) in
+      let same = det.goes (view desk) mid.desk (view desk1) asked.turn more next asked.goes ours in (
+        same.0,
+        record {
+          history = subst (λ (s : Place). History τ editions s.ledger) (sym asked.did.new_is) (moves d.event d.text d.reply history may.unforged may.moves);
+          sees = subst (λ (s : Place). Sees new s.ledger) (sym asked.did.new_is) (subst (λ (l : Ledger). Sees new l) (ledgers τ H left f d took.may may event text) took.sees);
+          left = ap (λ (s : Place). s.left) asked.did.new_is ∙ sym (lefts τ H left f d took.may may event text) ∙ sym took.left;
+          kept = same.1;
+        },
+      )
+    where
+      same_event : Step e ≡ Step d.event → e ≡ d.event
+      same_event is = cc (is)
+
+module _ {K V : Type 0} (view : K → V) (m : Model V) where
+  -- steps one after the other: from where some were taken, those that are left may be done
+  pub record LeftToAsk (Fails : ℕ → List ℕ → Reply → Type 0) (τ : Tariff) (line : List ℕ) (taken : ℕ) (audit : Audit) (rates : List ℕ) (desk : K) (next : Next) (mid : World Place V) : Type 0 where
+    pub at : World Place V
+    pub met : IsMet view τ audit rates desk at
+    pub steps : List StepRecord
+    pub asks : Asks (by_model m) (MayStep τ) at mid next steps Say
+    pub told : AreToldOf Fails (taken + 1) line steps
+
+  pub none_asked : (Fails : ℕ → List ℕ → Reply → Type 0) (τ : Tariff) (H : Ledger) (line rates : List ℕ) (audit : Audit) (desk : K) (first : Next) (mid : World Place V) (steps : List StepRecord)
+      → History τ editions H → Sees audit H → Asks (by_model m) (MayStep τ) (world (place H rates) (view desk)) mid first steps Say → AreToldOf Fails 1 line steps → LeftToAsk Fails τ line 0 audit rates desk first mid
+  none_asked Fails τ H line rates audit desk first mid steps history sees asks told =
+      record { at = world (place H rates) (view desk); met = record { history = history; sees = sees; left = refl; kept = refl }; steps = steps; asks = asks; told = told }
+
+  -- the place where the auditor is
+  met_at : (τ : Tariff) (audit : Audit) (rates : List ℕ) (desk : K) (at : World Place V) → IsMet view τ audit rates desk at → at ≡ world (place at.scene.ledger rates) (view desk)
+  met_at τ audit rates desk at met =
+      ap (λ (r : List ℕ). world (place at.scene.ledger r) at.desk) met.left ∙ ap (λ (v : V). world (place at.scene.ledger rates) v) met.kept
+
+  -- the next step that is left, and those after it
+  pub record NextAsked (Fails : ℕ → List ℕ → Reply → Type 0) (τ : Tariff) (line : List ℕ) (taken : ℕ) (audit : Audit) (rates : List ℕ) (desk : K) (e : Event) (mid : World Place V) : Type 0 where
+    pub ledger : Ledger
+    pub history : History τ editions ledger
+    pub sees : Sees audit ledger
+    pub behind : World Place V
+    pub more : Next
+    pub d : StepRecord
+    pub asked : Asked (by_model m) (MayStep τ) (world (place ledger rates) (view desk)) behind (Step e) d more
+    pub told : IsToldOf Fails (taken + 1) line d
+    pub steps : List StepRecord
+    pub asks : Asks (by_model m) (MayStep τ) behind mid more steps Say
+    pub are : AreToldOf Fails (taken + 1 + 1) line steps
+
+  pub next_asked : (Fails : ℕ → List ℕ → Reply → Type 0) (τ : Tariff) (line : List ℕ) (taken : ℕ) (audit : Audit) (rates : List ℕ) (desk : K) (next : Next) (e : Event) (mid : World Place V)
+      → next ≡ Step e → LeftToAsk Fails τ line taken audit rates desk next mid → NextAsked Fails τ line taken audit rates desk e mid
+  next_asked Fails τ line taken audit rates desk next e mid is left = by left.steps left.asks left.told
+    where
+      by : (steps : List StepRecord) → Asks (by_model m) (MayStep τ) left.at mid next steps Say → AreToldOf Fails (taken + 1) line steps → NextAsked Fails τ line taken audit rates desk e mid
+      by [] asks told = absurd (cc (asks.0, is))
+      by (d ∷ steps) asks told = record {
+        ledger = left.at.scene.ledger;
+        history = left.met.history;
+        sees = left.met.sees;
+        behind = asks.0;
+        more = asks.1;
+        d = d;
+        asked = subst (λ (x : World Place V). Asked (by_model m) (MayStep τ) x asks.0 (Step e) d asks.1) (met_at τ audit rates desk left.at left.met)
+            (subst (λ (n : Next). Asked (by_model m) (MayStep τ) left.at asks.0 n d asks.1) is asks.2);
+        told = told.0;
+        steps = steps;
+        asks = asks.3;
+        are = told.1;
+      }
+
+  -- the same, where what is asked for is no stop
+  pub left_next : (Fails : ℕ → List ℕ → Reply → Type 0) (τ : Tariff) (line : List ℕ) (taken : ℕ) (audit : Audit) (rates : List ℕ) (desk : K) (next : Next) (e : Event) (mid : World Place V)
+      → next ≡ Step e → (next ≢ Stop → LeftToAsk Fails τ line taken audit rates desk next mid) → NextAsked Fails τ line taken audit rates desk e mid
+  left_next Fails τ line taken audit rates desk next e mid is left = next_asked Fails τ line taken audit rates desk next e mid is (left (λ stop. absurd (cc (is, stop))))
+
+  -- what is left behind the next step
+  pub after_next : (Fails : ℕ → List ℕ → Reply → Type 0) (τ : Tariff) (line : List ℕ) (taken : ℕ) (audit audit1 : Audit) (rates rates1 : List ℕ) (desk desk1 : K) (e : Event) (next : Next) (mid : World Place V)
+      → (n : NextAsked Fails τ line taken audit rates desk e mid) → (n.more ≡ next) × IsMet view τ audit1 rates1 desk1 n.behind → LeftToAsk Fails τ line (taken + 1) audit1 rates1 desk1 next mid
+  after_next Fails τ line taken audit audit1 rates rates1 desk desk1 e next mid n met = record {
+    at = n.behind;
+    met = met.1;
+    steps = n.steps;
+    asks = subst (λ (x : Next). Asks (by_model m) (MayStep τ) n.behind mid x n.steps Say) met.0 n.asks;
+    told = n.are;
+  }
+
+  -- nothing is left to ask for
+  pub all_asked : (Fails : ℕ → List ℕ → Reply → Type 0) (τ : Tariff) (line : List ℕ) (taken : ℕ) (audit : Audit) (rates : List ℕ) (desk : K) (next : Next) (mid : World Place V)
+      → ((e : Event) → next ≡ Step e → ⊥) → LeftToAsk Fails τ line taken audit rates desk next mid → IsMet view τ audit rates desk mid
+  all_asked Fails τ line taken audit rates desk next mid none left = by left.steps left.asks
+    where
+      by : (steps : List StepRecord) → Asks (by_model m) (MayStep τ) left.at mid next steps Say → IsMet view τ audit rates desk mid
+      by [] asks = subst (λ (x : World Place V). IsMet view τ audit rates desk x) (sym asks.1) left.met
+      by (d ∷ steps) asks = absurd (none d.event asks.2.asks)
