@@ -1,8 +1,8 @@
-mod Alike
+pub mod Alike
 mod AllRuns
 mod Comparing
 mod Counting
-mod EachRun
+pub mod EachRun
 mod Exact
 mod Fitted
 mod GivenBack
