@@ -1,9 +1,11 @@
+pub mod AllRuns
 pub mod Asked
 pub mod ByModel
 pub mod ClaimsModel
 pub mod Compared
 pub mod Covered
 pub mod DepartmentsModel
+pub mod Forgetting
 pub mod Lined
 pub mod Lines
 pub mod ManifestModel
@@ -13,6 +15,7 @@ pub mod OnlyLines
 pub mod OnlySteps
 pub mod Ran
 pub mod RunFits
+pub mod Said
 pub mod SameStep
 pub mod StatementModel
 pub mod Stopped

@@ -7,10 +7,12 @@ pub mod ManifestModel
 pub mod Models
 pub mod Places
 pub mod Rates
+pub mod Runs
 pub mod Sides
 pub mod StatementModel
 pub mod Stops
 pub mod Takes
+pub mod Words
 -- Private calls and proofs alone name these.
 pub mod AuditLaws
 pub mod Exact

@@ -5,6 +5,7 @@ mod asking;
 mod comparing;
 mod extension;
 mod handler;
+pub mod laws;
 mod papers;
 mod plain;
 mod rates;

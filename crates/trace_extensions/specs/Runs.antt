@@ -1,0 +1,93 @@
+-- Several runs of all words, one after the other: what fits them all, and what their verdicts say together.
+use Rattle.std.specs.Prelude.{◌≡◌, List, [], ◌∷◌, Some}
+use Rattle.std.specs.List.{AllByRecursion}
+use Rattle.bench_base.specs.declared.ledger.Entry.TheVariants.{Begin}
+use Rattle.bench_base.specs.Ledger.{Ledger}
+use Rattle.ledger_moves.specs.Tariffs.{Tariff}
+use Rattle.trace_bench.specs.Seeing.{Audit}
+use Rattle.trace_runs.specs.Fitting.{IsCutShort}
+use Rattle.trace_runs.specs.Runs.{Papers, FitsRun, FindsNothing as FindsNothingIn, AtStart}
+use Rattle.trace_runs.specs.Verdicts.{Says, status_of}
+use Rattle.trace_runs.specs.declared.{verdict.Ending.Ending, verdict.Verdict.Verdict}
+use Rattle.trace_extensions.specs.Fits.{FitsSo, FitsIfLawful, LawfulIfFits, IsOpen as IsOpenIn}
+use Rattle.trace_extensions.specs.declared.{papers.SideVerdict.SideVerdict, papers.SideVerdict.TheVariants.Lawful}
+use Rattle.trace_extensions.specs.Words.{Word, Beside, View, model_of, StartsWith, left_beside}
+
+-- == runs that fit ==
+
+-- the papers of a run of events alone, or of one under a word
+pub data Run : Type 0 where
+  Events : (p : Papers) → Run
+  Under : (w : Word) (p : Papers) → Run
+
+-- A RUN UNDER A WORD FITS over ledger H, with this kept beside it, to its end, and leaves K and that.
+pub record FitsUnder (τ : Tariff) (H : Ledger) (k : Beside) (w : Word) (p : Papers) (K : Ledger) (l : Beside) : Type 0 where
+  pub before : View w
+  pub starts : StartsWith w k before
+  pub end : Ending
+  pub fits : FitsSo (model_of w) τ (Begin ∷ H) p.script p.report p.rates before (status_of end)
+  pub ledger : K ≡ fits.run.did.behind.scene.ledger
+  pub beside : l ≡ left_beside w k fits.run.did.behind.desk
+
+-- one of events alone fits to its end, or up to a stop
+abbrev pub FitsOne : Tariff → Ledger → Beside → Run → Ledger → Beside → Type 0
+FitsOne τ H k (Events p) K l = FitsRun τ H p K × (l ≡ k)
+FitsOne τ H k (Under w p) K l = FitsUnder τ H k w p K l
+
+-- RUNS FIT, one after the other: each fits over what the one before it left.
+abbrev pub Fit : Tariff → Ledger → Beside → List Run → Type 0
+Fit τ H k [] = Unit {0}
+Fit τ H k (r ∷ runs) = (K : Ledger) × (l : Beside) × FitsOne τ H k r K l × Fit τ K l runs
+
+-- == what is said of them ==
+
+-- a run that was judged: what the extension had before it and after it, and the verdict
+pub data Judged : Type 0 where
+  EventsJudged : (p : Papers) (v : Verdict) → Judged
+  UnderJudged : (w : Word) (p : Papers) (before after : View w) (v : SideVerdict) → Judged
+
+-- an auditor that had this judged it so and has that then, by the contracts of `judge_next` and `judge_side`
+abbrev pub IsJudged : Audit → Beside → Judged → Audit → Type 0
+IsJudged a k (EventsJudged p v) b = Says v p.script p.report p.rates a b
+IsJudged a k (UnderJudged w p x y v) b =
+    StartsWith w k x
+    × FitsIfLawful (model_of w) (Some p.script) (Some p.report) p.rates x y a b v
+    × LawfulIfFits (model_of w) (Some p.script) (Some p.report) p.rates x y a b v
+
+abbrev pub beside_after : Beside → Judged → Beside
+beside_after k (EventsJudged p v) = k
+beside_after k (UnderJudged w p x y v) = left_beside w k y
+
+abbrev pub run_of : Judged → Run
+run_of (EventsJudged p v) = Events p
+run_of (UnderJudged w p x y v) = Under w p
+
+-- a run that was judged, and what the auditor had after it
+pub record AuditedRun : Type 0 where
+  pub judged : Judged
+  pub after : Audit
+
+-- they were judged one after the other
+abbrev pub AreAudited : Audit → Beside → List AuditedRun → Type 0
+AreAudited a k [] = Unit {0}
+AreAudited a k (r ∷ audits) = IsJudged a k r.judged r.after × AreAudited r.after (beside_after k r.judged) audits
+
+abbrev pub runs_of : List AuditedRun → List Run
+runs_of [] = []
+runs_of (r ∷ audits) = run_of r.judged ∷ runs_of audits
+
+-- lawful; or, of events alone, stopped
+abbrev pub FindsNothing : Judged → Type 0
+FindsNothing (EventsJudged p v) = FindsNothingIn v
+FindsNothing (UnderJudged w p x y v) = (end : Ending) × (v ≡ Lawful end)
+
+-- the verdict leaves it open whether the run fits
+abbrev pub IsOpen : Judged → Type 0
+IsOpen (EventsJudged p v) = IsCutShort v
+IsOpen (UnderJudged w p x y v) = IsOpenIn v
+
+-- RUNS OF ALL WORDS ARE JUDGED EXACTLY. If the verdicts find nothing, the runs fit. If the runs fit, and no verdict leaves that open, they find nothing.
+pub record AreExact (start : Audit) (k : Beside) (audits : List AuditedRun) : Type 0 where
+  pub sound : AllByRecursion (λ r. FindsNothing r.judged) audits → AtStart start (λ τ H. Fit τ H k (runs_of audits))
+  pub complete : AllByRecursion (λ r. IsOpen r.judged → ⊥) audits
+      → AtStart start (λ τ H. Fit τ H k (runs_of audits) → AllByRecursion (λ r. FindsNothing r.judged) audits)
