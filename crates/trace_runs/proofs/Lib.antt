@@ -7,7 +7,7 @@ mod Exact
 mod Fitted
 mod GivenBack
 mod Giving
-mod Left
+pub mod Left
 mod MadePrinted
 mod Matching
 pub mod One
