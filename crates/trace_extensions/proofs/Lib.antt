@@ -14,6 +14,7 @@ pub mod Mounted
 pub mod OnlyLines
 pub mod OnlySteps
 pub mod Ran
+pub mod Read
 pub mod RunFits
 pub mod Said
 pub mod SameStep
