@@ -1,8 +1,7 @@
 -- Claims stay backed by the ledger, through each line of a run.
-use Rattle.std.proofs.Common.{◌≡◌, ◌≢◌, ◌⊎◌, inl, inr, ℕ, ◌+◌, ◌-◌, ◌<◌, ◌≤◌, List, [], ◌∷◌, ◌++◌, length, Option, Some, None, Result, Ok, Bool, true, false, ◌==◌, refl, sym, ap, ◌∙◌, subst, arith, true≢false}
+use Rattle.std.proofs.Common.{◌≡◌, ◌≢◌, ◌⊎◌, inl, inr, ℕ, ◌+◌, ◌-◌, ◌<◌, ◌≤◌, List, [], ◌∷◌, ◌++◌, length, Option, Some, None, Result, Ok, false, ◌==◌, refl, sym, ap, ◌∙◌, subst, arith, true≢false}
 use Rattle.std.specs.List.{AllByRecursion}
 use Rattle.std.proofs.lemmas.Bool.{cases_eq, cases_lt}
-use Rattle.std.proofs.lemmas.List.{get_or_past, set_past}
 use Rattle.std.proofs.lemmas.Option.{same_Some}
 use Rattle.bench_base.specs.declared.{events.Event.Event, ledger.Entry.TheVariants.Begin, refusals.MarkFault.MarkFault}
 use Rattle.bench_base.specs.declared.events.Event.TheVariants as ev
@@ -14,8 +13,7 @@ use Rattle.bench_base.specs.Questions.{IsAccepted}
 use Rattle.bench_base.proofs.Facts.{some_none}
 use Rattle.indicium.specs.declared.Mark.{Mark}
 use Rattle.indicium.specs.Marks.{read_mark}
-use Rattle.nv_model.specs.declared.nv.Nv as nv
-use Rattle.node_acts.specs.RowList.{row_at, row_of, commits_at, put}
+use Rattle.node_acts.specs.RowList.{row_of, put}
 use Rattle.node_acts.specs.RowLaws.{put_long, put_other}
 use Rattle.script_text.specs.Texts.{text_of}
 use Rattle.line_runs.specs.Trace.{Reads}
@@ -35,11 +33,12 @@ use Rattle.script_replay.specs.Run.{Unforged, Moves}
 use Rattle.spoil_claims.specs.Answers.{IsTold, IsCreditedNow, IsScanned, IsNewTold, IsClaimTold, IsAnswered, IsNewCut, IsClaimCut, IsCutShort, AreAnswered, IsCutCredit}
 use Rattle.spoil_claims.specs.ClaimLines.{IsScan, IsClaimLine}
 use Rattle.spoil_claims.specs.Claims.{Claims, IsHere, claim_at, kept, last_claim, mark_in, mark_of, scan_number}
-use Rattle.spoil_claims.specs.ClaimsDesk.{claims_desk}
-use Rattle.spoil_claims.specs.Courses.{Either, row_for, as_credited}
+use Rattle.spoil_claims.specs.ClaimsDesk.{by_keeper}
+use Rattle.spoil_claims.specs.Moves.{Keeper, row_for, as_credited}
 use Rattle.spoil_claims.specs.Holds.{IsCredited, IsClaimed, IsUsedUp, AreBacked}
 use Rattle.spoil_claims.specs.declared.{claim.ClaimLine.ClaimLine, claim.ClaimLine.TheVariants.Claim, claim.ClaimLine.TheVariants.Credits, claim.ClaimLine.TheVariants.Reserved, claim.ClaimRow.ClaimRow}
 use Rattle.spoil_claims.proofs.Keeping.{put_claim}
+use Rattle.spoil_claims.proofs.Numbers.{either_any, inside, outside}
 use Rattle.spoil_claims.proofs.Stopping.{IsCut, IsCutAfter}
 
 abbrev Reserves : Claims → ℕ → ℕ → ℕ → Type 0
@@ -48,17 +47,7 @@ Reserves rows d p n = 3000000000 < n → IsClaimed rows d p n
 weaker : (P Q : ℕ → ℕ → ℕ → Type 0) (H : Ledger) → ((d p n : ℕ) → P d p n → Q d p n) → EachAccepted P H → EachAccepted Q H
 weaker P Q H more all = record { counts = λ d p n within. more d p n (all.counts d p n within); torn = λ m d p n is. more d p n (all.torn m d p n is) }
 
-either_any : {P Q X : Type 0} (b : Bool) → (P → X) → (Q → X) → Either b P Q → X
-either_any true f h either = f either
-either_any false f h either = h either
-
 -- == a commit of a claim ==
-
-inside : (rows : Claims) (x : ClaimRow) → IsHere rows x → x.claim - 1 < length rows
-inside rows x is = elim (cases_lt (x.claim - 1) (length rows)) [
-  | inl lt ↦ lt
-  | inr le ↦ absurd (some_none (sym is.here ∙ ap (λ o. row_of o) (get_or_past rows (x.claim - 1) None le)))
-]
 
 module _ (rows : Claims) (x : ClaimRow) (lt : x.claim - 1 < length rows) where
   abbrev then : Claims
@@ -277,9 +266,6 @@ module _ (τ : Tariff) where
 
   -- == a commit that was torn ==
 
-  outside : (rows : Claims) (x : ClaimRow) → length rows ≤ x.claim - 1 → put rows (x.claim - 1) x ≡ rows
-  outside rows x le = set_past rows (x.claim - 1) (Some (commits_at (row_at rows (x.claim - 1)) + 1, x)) le
-
   torn_open : (rows : Claims) (x : ClaimRow) (H : Ledger) → kept rows x.claim ≡ None → x.credited ≡ false → AreBacked rows H → AreBacked (put rows (x.claim - 1) x) H
   torn_open rows x H none is_open b = elim (cases_lt (x.claim - 1) (length rows)) [
     | inl lt ↦ opened rows x H none is_open lt b
@@ -309,8 +295,8 @@ module _ (τ : Tariff) where
 
   -- == all lines ==
 
-  module _ {N : Type 0} (g : nv.Ghosts N) where
-    backed_all : (rows : Claims) (H : Ledger) (trace : List (SideStep ClaimLine)) (after : Claims) → AreBacked rows H → AllByRecursion (Reads (side_lines (claims_desk g))) trace → AreAnswered rows trace after
+  module _ {S : Type 0} (f : Keeper S) where
+    backed_all : (rows : Claims) (H : Ledger) (trace : List (SideStep ClaimLine)) (after : Claims) → AreBacked rows H → AllByRecursion (Reads (side_lines (by_keeper f))) trace → AreAnswered rows trace after
         → AllMoved τ H (steps_of trace) → AreBacked after (ledger_after τ H (steps_of trace))
     backed_all rows H [] after b reads answers did = subst (λ (r : Claims). AreBacked r H) (sym answers) b
     backed_all rows H (Plain (Skipped line) ∷ rest) after b reads answers did = backed_all rows H rest after b reads.1 answers did
@@ -324,7 +310,7 @@ module _ (τ : Tariff) where
         (backed_all answers.0 (ledger_after τ H steps) rest after (own_cut rows H b steps (first_moved τ H steps (steps_of rest) did) answers.0 own answers.1) reads.1 answers.2 (rest_moved τ H steps (steps_of rest) did))
 
     -- WHAT WAS BACKED BEFORE A RUN IS BACKED AFTER IT
-    pub backed_after : (L : Ledger) (rows after : Claims) (trace : List (SideStep ClaimLine)) → AreBacked rows L → AllByRecursion (Reads (side_lines (claims_desk g))) trace → AreAnswered rows trace after
+    pub backed_after : (L : Ledger) (rows after : Claims) (trace : List (SideStep ClaimLine)) → AreBacked rows L → AllByRecursion (Reads (side_lines (by_keeper f))) trace → AreAnswered rows trace after
         → AreUnforged τ Unforged (Begin ∷ L) (steps_of trace) → RunWhile τ Unforged (Moves τ) (Begin ∷ L) (steps_of trace) → AreBacked after (ledger_after τ (Begin ∷ L) (steps_of trace))
     backed_after L rows after trace b reads answers unforged run =
         backed_all rows (Begin ∷ L) trace after (begun rows L b) reads answers (all_moved τ (Begin ∷ L) (steps_of trace) unforged run)

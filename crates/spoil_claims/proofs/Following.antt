@@ -4,7 +4,6 @@ use Rattle.std.specs.List.{AllByRecursion}
 use Rattle.bench_base.specs.declared.ledger.Entry.TheVariants.{Begin}
 use Rattle.bench_base.specs.Ledger.{Ledger}
 use Rattle.bench_base.specs.Rules.{editions}
-use Rattle.nv_model.specs.declared.nv.Nv as nv
 use Rattle.ledger_terms.specs.Editions.{Editions}
 use Rattle.ledger_moves.specs.Tariffs.{Tariff}
 use Rattle.run_laws.proofs.Going.{all_moved}
@@ -17,9 +16,10 @@ use Rattle.script_replay.specs.Run.{Unforged, Moves}
 use Rattle.script_replay.proofs.Whiles.{AreHistories, first_history, later_histories, first_while, later_while}
 use Rattle.spoil_claims.specs.Answers.{IsAnswered, AreAnswered}
 use Rattle.spoil_claims.specs.Claims.{Claims}
-use Rattle.spoil_claims.specs.ClaimsDesk.{claims_desk}
+use Rattle.spoil_claims.specs.ClaimsDesk.{by_keeper}
 use Rattle.spoil_claims.specs.Follows.{TellsDebits, FollowLedger}
 use Rattle.spoil_claims.specs.Holds.{AreBacked, ClaimsHold}
+use Rattle.spoil_claims.specs.Moves.{Keeper}
 use Rattle.spoil_claims.specs.Texts.{credits_text}
 use Rattle.spoil_claims.specs.declared.{claim.ClaimLine.ClaimLine, claim.ClaimLine.TheVariants.Claim, claim.ClaimLine.TheVariants.Credits, claim.ClaimLine.TheVariants.Reserved}
 use Rattle.spoil_claims.proofs.Backing.{begun, passed, own_told, own_cut}
@@ -32,8 +32,8 @@ module _ (τ : Tariff) (today : Editions editions) where
   tells_debits (Credits w) rows H steps texts after holds answer = answer.texts_are ∙ ap (λ (sum : ℕ). credits_text w sum ∷ []) (holds.sums w)
   tells_debits Reserved rows H steps texts after holds answer = tt
 
-  module _ {N : Type 0} (g : nv.Ghosts N) where
-    follow : (rows : Claims) (H : Ledger) (trace : List (SideStep ClaimLine)) (after : Claims) → AreBacked rows H → AllByRecursion (Reads (side_lines (claims_desk g))) trace
+  module _ {S : Type 0} (f : Keeper S) where
+    follow : (rows : Claims) (H : Ledger) (trace : List (SideStep ClaimLine)) (after : Claims) → AreBacked rows H → AllByRecursion (Reads (side_lines (by_keeper f))) trace
         → (answers : AreAnswered rows trace after) → RunWhile τ Unforged (Moves τ) H (steps_of trace) → AreHistories τ H (steps_of trace) → FollowLedger τ H rows trace after answers
     follow rows H [] after b reads answers run are = claims_hold today τ H are rows b
     follow rows H (Plain (Skipped line) ∷ rest) after b reads answers run are = follow rows H rest after b reads.1 answers run are
@@ -57,7 +57,7 @@ module _ (τ : Tariff) (today : Editions editions) where
     )
 
     -- from the beginning of a run on
-    pub follow_all : (L : Ledger) (rows after : Claims) (trace : List (SideStep ClaimLine)) → AreBacked rows L → AllByRecursion (Reads (side_lines (claims_desk g))) trace
+    pub follow_all : (L : Ledger) (rows after : Claims) (trace : List (SideStep ClaimLine)) → AreBacked rows L → AllByRecursion (Reads (side_lines (by_keeper f))) trace
         → (answers : AreAnswered rows trace after) → RunWhile τ Unforged (Moves τ) (Begin ∷ L) (steps_of trace) → AreHistories τ (Begin ∷ L) (steps_of trace)
         → FollowLedger τ (Begin ∷ L) rows trace after answers
     follow_all L rows after trace b reads answers run are = follow rows (Begin ∷ L) trace after (begun rows L b) reads answers run are

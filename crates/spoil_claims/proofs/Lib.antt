@@ -1,10 +1,11 @@
 pub mod Answering
-mod Backing
+pub mod Backing
 mod Blank
-mod Following
-mod Holding
+pub mod Following
+pub mod Holding
 mod Keeping
 mod Meanwhile
+pub mod Numbers
 mod Payloads
 pub mod Reading
 mod Running

@@ -12,17 +12,14 @@ use Rattle.line_extensions.proofs.Moving.{each_move}
 use Rattle.line_extensions.proofs.Stores.{shown_still, shown_commit}
 use Rattle.spoil_claims.specs.Claims.{kept, last_claim, credits}
 use Rattle.spoil_claims.specs.ClaimsDesk.{claims_desk}
-use Rattle.spoil_claims.specs.Courses.{Either, row_for, as_credited, scan_of, Says, ByFailed, ByKept, Begins, Scanned, GoesOn}
+use Rattle.spoil_claims.specs.Courses.{row_for, as_credited, scan_of, Says, ByFailed, ByKept, Begins, Scanned, GoesOn}
 use Rattle.spoil_claims.specs.Payload.{decoded, spelled}
 use Rattle.spoil_claims.specs.Storage.{ShownMeanwhile}
 use Rattle.spoil_claims.specs.View.{said_of, has_failed, rows_of, view_of, Rests}
 use Rattle.spoil_claims.specs.declared.{claim.ClaimLine.ClaimLine, claim.ClaimLine.TheVariants.Claim, claim.ClaimLine.TheVariants.Credits, claim.ClaimLine.TheVariants.Reserved, claim.ClaimRow.ClaimRow, claim.TheConstants.CLAIM_CELLS, desk.Desk.Desk, answer.Answer.Answer}
 use Rattle.spoil_claims.specs.declared.answer.Answer.TheVariants as answers
+use Rattle.spoil_claims.proofs.Numbers.{either_any}
 use Rattle.spoil_claims.proofs.Stopping.{commit_of, shows_now}
-
-by_either : {P Q X : Type 0} (b : Bool) → (P → X) → (Q → X) → Either b P Q → X
-by_either true f h either = f either
-by_either false f h either = h either
 
 module _ {N : Type 0} {g : nv.Ghosts N} where
   rests_shown : (old new : Desk N g) → Rests old new → ShownMeanwhile old new
@@ -43,11 +40,11 @@ module _ {N : Type 0} {g : nv.Ghosts N} where
 
   claim_shown : (o : Option ClaimRow) (c w : ℕ) (mark : List ℕ) (old : Desk N g) (next : Next) (new : Desk N g) → ByKept o c w mark old next new → ShownMeanwhile old new
   claim_shown (Some x) c w mark old next new (inl known) =
-      by_either x.credited (λ again. says_shown (answers.Credited c again.mark true) old next new again.says) (λ scans. rests_shown old new scans.rests) known.1
+      either_any x.credited (λ again. says_shown (answers.Credited c again.mark true) old next new again.says) (λ scans. rests_shown old new scans.rests) known.1
   claim_shown (Some x) c w mark old next new (inr other) = says_shown answers.Conflict old next new other.1
   claim_shown None c w mark old next new did =
-      by_either (c == last_claim (rows_of old) + 1)
-      (λ fits. by_either (c == 1025) (λ full. says_shown answers.Full old next new full)
+      either_any (c == last_claim (rows_of old) + 1)
+      (λ fits. either_any (c == 1025) (λ full. says_shown answers.Full old next new full)
       (λ tries. tries_shown (has_failed old) (row_for c w mark) (answers.Scanning c) (scan_of (row_for c w mark)) old next new tries) fits)
       (λ wrong. says_shown (answers.WrongClaim (last_claim (rows_of old))) old next new wrong) did
 

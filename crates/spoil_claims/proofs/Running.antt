@@ -25,6 +25,7 @@ use Rattle.script_replay.proofs.Whiles.{all_histories}
 use Rattle.spoil_claims.specs.Answers.{AreAnswered}
 use Rattle.spoil_claims.specs.Claims.{Claims}
 use Rattle.spoil_claims.specs.ClaimsDesk.{claims_desk}
+use Rattle.spoil_claims.specs.Courses.{stored}
 use Rattle.spoil_claims.specs.Ran.{DidClaims}
 use Rattle.spoil_claims.specs.Holds.{AreBacked}
 use Rattle.line_extensions.specs.Stops.{HasBroken}
@@ -32,11 +33,12 @@ use Rattle.line_extensions.proofs.Lines.{AtLast}
 use Rattle.spoil_claims.specs.Storage.{with_torn, LeavesStorage}
 use Rattle.spoil_claims.specs.View.{has_failed, rows_of}
 use Rattle.spoil_claims.specs.declared.{claim.ClaimLine.ClaimLine, claim.ClaimRow.ClaimRow, desk.Desk.Desk}
-use Rattle.spoil_claims.proofs.Answering.{all_answered}
+use Rattle.spoil_claims.proofs.Answering.{all_answered, stored_keeps}
 use Rattle.spoil_claims.proofs.Backing.{backed_after, torn_backed}
 use Rattle.spoil_claims.proofs.Following.{follow_all}
 use Rattle.spoil_claims.proofs.Holding.{claims_hold}
 use Rattle.spoil_claims.proofs.Meanwhile.{all_shown}
+use Rattle.spoil_claims.proofs.Numbers.{desk_numbers}
 use Rattle.spoil_claims.proofs.Stopping.{shows_now, Goes, BreaksBy, IsCutAfter, Ends, all_end}
 use Rattle.line_extensions.proofs.Wanting.{desk_left}
 use Rattle.script_replay.proofs.Nothing.{stands_for_none, bench_fresh}
@@ -116,7 +118,7 @@ module _ {N : Type 0} (n : Nodes) (own : nv.Ghosts N) (nested : (s : N) → own.
       let from = world (scene did.begun old.scene.outside) old.desk in
       let same : new.desk ≡ did.behind.desk = desk_left (λ s t. Leaves (Run status.Memory) s t) outcome did.behind new did.leaves in
       let answers : AreAnswered (rows_of old.desk) trace (rows_of new.desk) = subst (λ (r : Claims). AreAnswered (rows_of old.desk) trace r)
-      (sym (ap (λ (d : Desk N own). rows_of d) same)) (all_answered (StepsBy n) (told n) from did.behind trace did.did) in
+      (sym (ap (λ (d : Desk N own). rows_of d) same)) (all_answered (stored own) (stored_keeps own) (StepsBy n) (told n) from did.behind trace (desk_numbers own old.desk) reads did.did) in
       let is_left : Left old.desk new.desk outcome trace at = left old.desk new.desk outcome trace at
       (subst (λ (d : Desk N own). Ends old.desk d trace) (sym same) (all_end nested (StepsBy n) (told n) from did.behind trace at.last did.did)) in
       record {
@@ -124,7 +126,7 @@ module _ {N : Type 0} (n : Nodes) (own : nv.Ghosts N) (nested : (s : N) → own.
         answers = answers;
         follows = λ τ L texts stands tells backed.
             let through = did.bench.throughout τ L texts stands tells in
-            follow_all τ today own L (rows_of old.desk) (rows_of new.desk) trace backed reads answers (did.bench.over τ L texts stands tells).run
+            follow_all τ today (stored own) L (rows_of old.desk) (rows_of new.desk) trace backed reads answers (did.bench.over τ L texts stands tells).run
             (all_histories τ n (Begin ∷ L) _ _ (steps_of trace) did.bench.steps through);
         torn = is_left.torn;
         storage = is_left.storage;
@@ -132,7 +134,7 @@ module _ {N : Type 0} (n : Nodes) (own : nv.Ghosts N) (nested : (s : N) → own.
         holds = λ τ L texts stands tells backed unforged.
             let over = did.bench.over τ L texts stands tells in
             let history = (over.stands unforged).history in
-            let b = backed_after τ own L (rows_of old.desk) (rows_of new.desk) trace backed reads answers unforged over.run in (
+            let b = backed_after τ (stored own) L (rows_of old.desk) (rows_of new.desk) trace backed reads answers unforged over.run in (
               claims_hold today τ _ history (rows_of new.desk) b,
               claims_hold today τ _ history (with_torn is_left.torn (rows_of new.desk))
                   (with_torn_backed τ is_left.torn (rows_of new.desk) (Begin ∷ L) (steps_of trace) unforged over.run is_left.cut b),

@@ -1,5 +1,5 @@
 -- What a run leaves of the storage of the claims: whether a commit failed, and why.
-use Rattle.std.proofs.Common.{◌≡◌, ◌⊎◌, inl, inr, ℕ, ◌+◌, ◌-◌, List, [], ◌∷◌, ◌++◌, Option, Some, None, Result, Ok, Err, Bool, true, false, ◌==◌, refl, sym, ap, ◌∙◌, subst}
+use Rattle.std.proofs.Common.{◌≡◌, ◌⊎◌, inl, inr, ℕ, ◌+◌, ◌-◌, ◌<◌, List, [], ◌∷◌, ◌++◌, length, Option, Some, None, Result, Ok, Err, Bool, true, false, ◌==◌, refl, sym, ap, ◌∙◌, subst, arith}
 use Rattle.std.proofs.lemmas.List.{append_assoc, append-nil}
 use Rattle.std.proofs.lemmas.Option.{same_Some}
 use Rattle.bench_base.specs.declared.{events.Reply.Reply, refusals.StoreFail.StoreFail}
@@ -26,15 +26,18 @@ use Rattle.line_extensions.specs.Stops.{HasBroken, RowCommit}
 use Rattle.line_extensions.proofs.Stores as stores
 use Rattle.line_extensions.proofs.Lines.{BrokenLast}
 use Rattle.spoil_claims.specs.Answers.{IsCutCredit}
-use Rattle.spoil_claims.specs.Claims.{Claims, kept, last_claim, credits}
+use Rattle.spoil_claims.specs.Claims.{Claims, claim_at, kept, last_claim, credits}
 use Rattle.spoil_claims.specs.ClaimsDesk.{claims_desk}
-use Rattle.spoil_claims.specs.Courses.{Either, row_for, as_credited, scan_of, Follows, Says, ByFailed, Scans, ByKept, Begins, Credited, Scanned, GoesOn}
+use Rattle.spoil_claims.specs.Courses.{row_for, as_credited, scan_of, Follows, Says, ByFailed, Scans, ByKept, Begins, Credited, Scanned, GoesOn, stored}
 use Rattle.spoil_claims.specs.Payload.{decoded, spelled}
 use Rattle.spoil_claims.specs.Storage.{IsUntouched}
 use Rattle.spoil_claims.specs.View.{said_of, has_failed, rows_of, storage_of, store_of, view_of, Rests}
+use Rattle.spoil_claims.specs.Waits.{IsWaiting}
 use Rattle.spoil_claims.specs.declared.{claim.ClaimLine.ClaimLine, claim.ClaimLine.TheVariants.Claim, claim.ClaimLine.TheVariants.Credits, claim.ClaimLine.TheVariants.Reserved, claim.ClaimRow.ClaimRow, claim.TheConstants.CLAIM_CELLS, desk.Desk.Desk, answer.Answer.Answer}
 use Rattle.spoil_claims.specs.declared.answer.Answer.TheVariants as answers
-use Rattle.spoil_claims.proofs.Answering.{rests_rows, open_kept, scan_cut}
+use Rattle.spoil_claims.proofs.Answering.{rests_rows, stored_keeps, scan_cut}
+use Rattle.spoil_claims.proofs.Keeping.{rows_long, kept_inside, put_claim}
+use Rattle.spoil_claims.proofs.Numbers.{either_any, kept_only}
 use Rattle.line_extensions.proofs.Wanting.{no_step, no_say, ends_at}
 
 no_stop : (next : Next) → next ≡ Say → next ≡ Stop → ⊥
@@ -48,10 +51,6 @@ no_say_step next say step = no_step next (inl say) step
 
 one_number : (c e : ℕ) → answers.Scanning c ≡ answers.Scanning e → c ≡ e
 one_number c e is = cc
-
-either_any : {P Q X : Type 0} (b : Bool) → (P → X) → (Q → X) → Either b P Q → X
-either_any true f h either = f either
-either_any false f h either = h either
 
 -- == a commit that failed ==
 
@@ -91,6 +90,15 @@ module _ {N : Type 0} {g : nv.Ghosts N} where
   -- one of this claim did
   abbrev pub Breaks : ClaimRow → Desk N g → Desk N g → Type 0
   Breaks x old new = stores.Breaks g decoded 73 CLAIM_CELLS (commit_of x) (view_of old) (view_of new)
+
+  -- a new claim that was committed as open is kept
+  open_kept : (c w : ℕ) (mark : List ℕ) (old desk : Desk N g) → said_of desk ≡ answers.Scanning c → rows_of desk ≡ put (rows_of old) (c - 1) (row_for c w mark) → kept (rows_of desk) c ≡ Some (row_for c w mark)
+  open_kept c w mark old desk now after =
+      let waits = subst (λ (s : Answer). IsWaiting (rows_of desk) s) now desk.waits in
+      let inside = kept_inside (cells_of desk.room) (kept_in desk.room) c waits.1 in
+      let first = waits.0 in
+      let lt : c - 1 < length (rows_of old) = omega (arith, rows_long (cells_of old.room) (kept_in old.room), old.cells, desk.cells, inside, first) in
+      ap (λ (r : Claims). claim_at r (c - 1)) after ∙ put_claim (rows_of old) (c - 1) (row_for c w mark) lt
 
   untouched : (old new : Desk N g) → Rests old new → IsUntouched old new
   untouched old new rests = record { storage = rests.storage; rows = rests_rows old new rests }
@@ -198,7 +206,7 @@ module _ {N : Type 0} {g : nv.Ghosts N} where
       opens_new : (c w : ℕ) (mark : List ℕ) (old : Desk N g) (next : Next) (new : Desk N g) → kept (rows_of old) c ≡ None
           → Came (row_for c w mark) (answers.Scanning c) (scan_of (row_for c w mark)) old next new → Opens old next new
       opens_new c w mark old next new none (inl (goes, inl done)) =
-          inl (goes, no_scan_stop (row_for c w mark) next done.0, λ step. (row_for c w mark, done.0, done.1, open_kept Steps told c w mark old new done.1 done.2))
+          inl (goes, no_scan_stop (row_for c w mark) next done.0, λ step. (row_for c w mark, done.0, done.1, open_kept c w mark old new done.1 done.2))
       opens_new c w mark old next new none (inl (goes, inr say)) = inl (goes, no_stop next say, λ step. absurd (no_say_step next say step))
       opens_new c w mark old next new none (inr (stop, breaks, rows)) = inr (stop, row_for c w mark, breaks, ap (λ (r : Claims). kept r c) rows ∙ none, refl)
 
@@ -248,7 +256,8 @@ module _ {N : Type 0} {g : nv.Ghosts N} where
               let number : c ≡ x.claim = one_number c x.claim (sym now ∙ waits.2) in
               let row : y ≡ x = same_Some y x (sym kept_y ∙ (ap (λ (j : ℕ). kept (rows_of desk) j) number ∙ waits.3)) in
               let end = ends_at (claims_desk g) Steps asks.0 new asks.1 rest Stop asks.3 (inr stop) in
-              let cut = scan_cut Steps told x desk s new (d ∷ rest) waits.2 waits.3 (subst (λ (n : Next). Asks (claims_desk g) Steps (world s desk) new n (d ∷ rest) Stop) waits.1 asks) in (
+              let first = (subst (λ (a : Answer). IsWaiting (rows_of desk) a) waits.2 desk.waits).0 in
+              let cut = scan_cut (stored g) (stored_keeps g) Steps told x desk s new (d ∷ rest) waits.2 (record { first = first; only = kept_only (rows_of desk) x waits.3 }) (subst (λ (n : Next). Asks (claims_desk g) Steps (world s desk) new n (d ∷ rest) Stop) waits.1 asks) in (
                 as_credited y,
                 subst (λ (w : World B (Desk N g)). Breaks (as_credited y) old w.desk) (sym end.2) (breaks_later (as_credited y) old desk asks.0.desk opens.0 breaks),
                 inr (x, ap as_credited row, subst (λ (r : Claims). IsCutCredit x r (d ∷ rest)) (sym cut.1) cut.0),

@@ -17,6 +17,10 @@ claim_at rows k = row_of (row_at rows k)
 abbrev pub kept : Claims → ℕ → Option ClaimRow
 kept rows c = claim_at rows (c - 1)
 
+-- each claim lies in the cell of its number
+abbrev pub AreNumbered : Claims → Type 0
+AreNumbered rows = (c : ℕ) (x : ClaimRow) → 1 ≤ c → kept rows c ≡ Some x → x.claim ≡ c
+
 -- claims lie in cells 0, 1 and so on: before each but the first there is one
 abbrev pub HasNoGaps : Claims → Type 0
 HasNoGaps rows = (k : ℕ) → IsSome (claim_at rows (k + 1)) → IsSome (claim_at rows k)

@@ -4,20 +4,25 @@ use Rattle.bench_base.specs.declared.events.Reply.{Reply}
 use Rattle.nv_model.specs.declared.nv.Nv as nv
 use Rattle.line_extensions.specs.declared.extension.Extension.{Ghosts}
 use Rattle.spoil_claims.specs.ClaimLines.{IsClaimLine}
-use Rattle.spoil_claims.specs.Courses.{Begins, GoesOn}
+use Rattle.spoil_claims.specs.Courses.{stored}
+use Rattle.spoil_claims.specs.Moves.{Keeper, Begins, GoesOn}
 use Rattle.spoil_claims.specs.Texts.{said_texts}
-use Rattle.spoil_claims.specs.View.{said_of}
 use Rattle.spoil_claims.specs.declared.{claim.ClaimLine.ClaimLine, desk.Desk.Desk}
 
-abbrev pub claims_desk : {N : Type 0} (g : nv.Ghosts N) → Ghosts (Desk N g) Reply
-claims_desk g = record {
+-- whoever keeps claims, as a desk
+abbrev pub by_keeper : {S : Type 0} → Keeper S → Ghosts S Reply
+by_keeper f = record {
   Own = ClaimLine;
   IsOwn = IsClaimLine;
   MayWant = λ own. ⊥;
   Passes = λ k line. (own : ClaimLine) → IsClaimLine own line → ⊥;
-  Begins = λ k own next t. Begins k own next t;
-  Goes = λ k turn next t. GoesOn (said_of k) turn.reply k next t;
+  Begins = λ k own next t. Begins f k own next t;
+  Goes = λ k turn next t. GoesOn f (f.said k) turn.reply k next t;
   Sees = λ k e turn t. t ≡ k;
-  texts = λ k. said_texts (said_of k);
+  texts = λ k. said_texts (f.said k);
   left = λ k. 0;
 }
+
+-- the one that keeps them in its storage
+abbrev pub claims_desk : {N : Type 0} (g : nv.Ghosts N) → Ghosts (Desk N g) Reply
+claims_desk g = by_keeper (stored g)
