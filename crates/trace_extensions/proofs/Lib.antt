@@ -1,6 +1,7 @@
 pub mod AllRuns
 pub mod Asked
 pub mod ByModel
+pub mod ClaimsKept
 pub mod ClaimsModel
 pub mod Compared
 pub mod Covered

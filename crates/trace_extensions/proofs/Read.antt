@@ -122,9 +122,9 @@ module _ {V T : Type 0} (m : Model V) (k : Ghosts V T) where
           },
         )
 
-    split : (old new : World B V) (xs ys : List (SideStep (List ℕ))) → Does (by_model m) Steps old new (xs ++ ys) → (mid : World B V) × Does (by_model m) Steps old mid xs × Does (by_model m) Steps mid new ys
-    split old new [] ys did = (old, refl, did)
-    split old new (a ∷ xs) ys did = let rest = split did.0 new xs ys did.2 in (rest.0, (did.0, did.1, rest.1), rest.2)
+    two_parts : (old new : World B V) (xs ys : List (SideStep (List ℕ))) → Does (by_model m) Steps old new (xs ++ ys) → (mid : World B V) × Does (by_model m) Steps old mid xs × Does (by_model m) Steps mid new ys
+    two_parts old new [] ys did = (old, refl, did)
+    two_parts old new (a ∷ xs) ys did = let rest = two_parts did.0 new xs ys did.2 in (rest.0, (did.0, did.1, rest.1), rest.2)
 
     -- == the last line ==
 
@@ -200,7 +200,7 @@ module _ {V T : Type 0} (m : Model V) (k : Ghosts V T) where
         (r : Replayed (side_lines (by_model m)) (Run s) P left0 left1 t0 t1) → Does (by_model m) Steps old new (r.trace ++ r.done)
         → ((ys : List (SideStep k.Own)) → AllByRecursion (Reads (side_lines k)) ys → Does k Steps old new ys → Q ys) → Replayed (side_lines k) (Run s) Q left0 left1 t0 t1
     run_read s whole P Q left0 left1 t0 t1 old new r did that =
-        let parts = split old new r.trace r.done did in
+        let parts = two_parts old new r.trace r.done did in
         let front = all_read old parts.0 r.trace r.each parts.1 in
         let last = ends_read (length r.trace + 1) r.rest (IsAtEnd left1) r.text parts.0 new r.done parts.2 s whole r.ends in
         record {
@@ -242,7 +242,7 @@ module _ (τ : Tariff) where
   both_moves H N M [] b one two = subst (λ (L : Ledger). AreMoves L b M) one.ledger two
   both_moves H N M (d ∷ a) b one two =
       let u = one.unforged in
-      let rest = record { unforged = u.1; run = (one.run u.0).1; histories = one.histories.1 u.0; history = one.history; ledger = one.ledger } in
+      let rest : AreMoves (ledger_by τ H d) a N = record { unforged = u.1; run = (one.run u.0).1; histories = one.histories.1 u.0; history = one.history; ledger = one.ledger } in
       let more = both_moves (ledger_by τ H d) N M a b rest two in
       record { unforged = (u.0, more.unforged); run = λ v. ((one.run v).0, more.run); histories = (one.histories.0, λ v. more.histories); history = more.history; ledger = more.ledger }
 

@@ -1,4 +1,5 @@
 -- Promised: public contracts name these.
+pub mod ClaimsKept
 pub mod ClaimsModel
 pub mod DepartmentsModel
 pub mod Fits

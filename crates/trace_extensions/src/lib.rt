@@ -2,6 +2,7 @@
 #![tactic(auto)]
 
 mod asking;
+pub mod claims_law;
 mod comparing;
 mod extension;
 mod handler;
