@@ -19,18 +19,12 @@ use Rattle.ledger_moves.specs.Tariffs.{Tariff}
 use Rattle.send_laws.specs.Orders.{ordered_postage, IsSentFor}
 use Rattle.send_laws.proofs.Kept.{ordered_entry, ordered_kept}
 use Rattle.send_laws.proofs.Sending.{sent_for}
-use Rattle.bench_abstraction.specs.Tariff.{IsOfTexts}
-use Rattle.bench.specs.Benches.{Nodes}
 use Rattle.line_extensions.specs.Trace.{StepRecord, Skipped, Did}
 use Rattle.line_extensions.specs.SideTrace.{SideStep, Plain, Own, Broken, steps_of}
 use Rattle.line_extensions.specs.Stops.{with_commit}
-use Rattle.script_replay.specs.Chains.{SceneOf, DidEvents}
 use Rattle.script_replay.specs.Trace.{ledger_by, ledger_after, AreUnforged}
 use Rattle.script_replay.specs.Run.{Unforged}
-use Rattle.script_replay.specs.Sides.{StepsBy}
-use Rattle.script_replay.specs.Throughout.{StandsFor}
-use Rattle.script_replay.proofs.Chains.{steps_on, stands_then, stands_after}
-use Rattle.host_departments.specs.Answers.{Answered, IsTold, IsCommitted, IsTakenIn, IsSent, IsAssignTold, ByQuota, IsAnswered, CellCommit, IsCutShort, AreDone, AreAnswered}
+use Rattle.host_departments.specs.Answers.{Asked, Answered, IsTold, IsCommitted, IsTakenIn, IsSent, IsAssignTold, ByQuota, IsAnswered, CellCommit, IsCutShort, AreDone, AreAnswered}
 use Rattle.host_departments.specs.Moves.{Either}
 use Rattle.host_departments.specs.Heard.{IsTaken, debit_postage, postage_sent}
 use Rattle.host_departments.specs.Holds.{AreBacked}
@@ -39,6 +33,7 @@ use Rattle.host_departments.specs.Texts.{numbered, quota_text, assigned_text, sp
 use Rattle.host_departments.specs.declared.{row.DepartmentLine.DepartmentLine, row.DepartmentLine.TheVariants.Quota, row.DepartmentLine.TheVariants.Assign, row.DepartmentLine.TheVariants.Spent, row.DepartmentLine.TheVariants.Print, row.DepartmentRow.DepartmentRow}
 use Rattle.host_departments.specs.declared.row.DepartmentRow.TheVariants as row
 use Rattle.host_departments.proofs.Puts.{put_row}
+use Rattle.host_departments.proofs.Tracking.{StepsLedger}
 
 -- == a commit ==
 
@@ -104,55 +99,57 @@ module _ (τ : Tariff) where
   after_both H [] b = refl
   after_both H (d ∷ a) b = after_both (ledger_by τ H d) a b
 
-  module _ (n : Nodes) (texts : IsOfTexts τ) (tells : n.storage.tells) (today : Editions editions) where
-    pub did_events : (s : SceneOf n) (steps : List StepRecord) (asked : List _) (t : SceneOf n) → AreDone (StepsBy n) s steps asked t → DidEvents n s t steps
-    did_events s [] [] t done = done
-    did_events s [] (x ∷ asked) t done = absurd done
-    did_events s (d ∷ steps) [] t done = absurd done
-    did_events s (d ∷ steps) (x ∷ asked) t done = (done.0, done.2.0, did_events done.0 steps asked t done.3)
+  module _ {B : Type 0} (Steps : B → B → StepRecord → Turn → Type 0) (ledger : StepsLedger τ Steps) (today : Editions editions) where
+    -- where the steps were done, the state stands for what they leave
+    pub at_after : (s : B) (steps : List StepRecord) (asked : List Asked) (t : B) (H : Ledger) → AreDone Steps s steps asked t → ledger.At s H → AreUnforged τ Unforged H steps
+        → ledger.At t (ledger_after τ H steps)
+    at_after s [] [] t H done at u = subst (λ (x : B). ledger.At x H) (sym done) at
+    at_after s [] (x ∷ asked) t H done at u = absurd done
+    at_after s (d ∷ steps) [] t H done at u = absurd done
+    at_after s (d ∷ steps) (x ∷ asked) t H done at u =
+        at_after done.0 steps asked t (ledger_by τ H d) done.3 (ledger.goes s done.0 d x.turn H done.2 at u.0) u.1
 
     -- == the message of a job ==
 
     -- its postage is that of the job's Ordered
-    heard_order : (s t : SceneOf n) (d : StepRecord) (H : Ledger) (turn : Turn) (j p : ℕ) → StandsFor n τ s.bench H → StepsBy n s t d turn → d.event ≡ ev.Send j → IsTaken j turn.reply (sent_in turn.entries) p
+    heard_order : (s t : B) (d : StepRecord) (H : Ledger) (turn : Turn) (j p : ℕ) → ledger.At s H → Steps s t d turn → d.event ≡ ev.Send j → IsTaken j turn.reply (sent_in turn.entries) p
         → ordered_postage j (counted H) ≡ Some p
-    heard_order s t d H turn j p stands by event taken =
-        let did = by.0 in
-        let on = steps_on n τ texts tells s t d H did stands (subst (λ (e : Event). Unforged H e) (sym event) tt) in
+    heard_order s t d H turn j p at did event taken =
+        let told = ledger.told s t d turn H did at (subst (λ (e : Event). Unforged H e) (sym event) tt) in
         let i = taken.is_sent.0 in
         let k = taken.is_sent.1 in
-        let reply : did.turn.reply ≡ r.SentDebit i k = ap (λ (x : Turn). x.reply) by.1 ∙ taken.is_sent.2 in
+        let reply : turn.reply ≡ r.SentDebit i k = taken.is_sent.2 in
         let moved : moves.Moves τ todays_rules H (ev.Send j) d.text (r.SentDebit i k) =
-        subst (λ (a : Reply). moves.Moves τ todays_rules H (ev.Send j) d.text a) reply (subst (λ (e : Event). moves.Moves τ todays_rules H e d.text did.turn.reply) event on.moves) in
-        let sent : IsSentFor j (after (plan τ todays_rules H (ev.Send j) d.text) (r.SentDebit i k) []) H = sent_for τ _ _ H today stands.history j i k d.text moved in
+        subst (λ (a : Reply). moves.Moves τ todays_rules H (ev.Send j) d.text a) reply (subst (λ (e : Event). moves.Moves τ todays_rules H e d.text turn.reply) event told.moves) in
+        let sent : IsSentFor j (after (plan τ todays_rules H (ev.Send j) d.text) (r.SentDebit i k) []) H = sent_for τ _ _ H today (ledger.history s H at) j i k d.text moved in
         let entries : turn.entries ≡ in_order (after (plan τ todays_rules H (ev.Send j) d.text) (r.SentDebit i k) []) =
-        ap (λ (x : Turn). x.entries) (sym by.1) ∙ (on.entries ∙ ap₂ (λ (e : Event) (a : Reply). in_order (after (plan τ todays_rules H e d.text) a [])) event reply) in
+        told.entries ∙ ap₂ (λ (e : Event) (a : Reply). in_order (after (plan τ todays_rules H e d.text) a [])) event reply in
         let note : sent_in turn.entries ≡ Some sent.bytes = ap (λ (l : List (Option Entry)). sent_in l) (entries ∙ ap (λ (l : Ledger). in_order l) sent.only) in
         let postage : Some sent.debit.postage ≡ Some p =
         sym (ap (λ (x : Result Message Unread). debit_postage x) sent.reads) ∙ (ap (λ (o : Option (List ℕ)). postage_sent o) (sym note) ∙ taken.postage) in
         sent.postage ∙ postage
 
     -- and stays so
-    sent_order : (s : SceneOf n) (steps : List StepRecord) (t : SceneOf n) (H : Ledger) (turn : Turn) (j p : ℕ) → StandsFor n τ s.bench H → AreDone (StepsBy n) s steps (record { event = ev.Send j; turn = turn } ∷ []) t
+    sent_order : (s : B) (steps : List StepRecord) (t : B) (H : Ledger) (turn : Turn) (j p : ℕ) → ledger.At s H → AreDone Steps s steps (record { event = ev.Send j; turn = turn } ∷ []) t
         → IsTaken j turn.reply (sent_in turn.entries) p → ordered_postage j (counted (ledger_after τ H steps)) ≡ Some p
-    sent_order s [] t H turn j p stands done taken = absurd done
-    sent_order s (d ∷ rest) t H turn j p stands done taken = kept_after (ledger_by τ H d) rest j p (kept_by H d j p (heard_order s done.0 d H turn j p stands done.2 done.1 taken))
+    sent_order s [] t H turn j p at done taken = absurd done
+    sent_order s (d ∷ rest) t H turn j p at done taken = kept_after (ledger_by τ H d) rest j p (kept_by H d j p (heard_order s done.0 d H turn j p at done.2 done.1 taken))
 
     -- == an own line ==
 
-    module _ (s t : SceneOf n) (rows : Rows) (H : Ledger) (steps : List StepRecord) (stands : StandsFor n τ s.bench H) (b : AreBacked rows H) where
+    module _ (s t : B) (rows : Rows) (H : Ledger) (steps : List StepRecord) (stands : ledger.At s H) (b : AreBacked rows H) where
       abbrev Now : Ledger
       Now = ledger_after τ H steps
 
       pub still : AreBacked rows Now
       still k j p is = kept_after H steps j p (b k j p is)
 
-      module _ (a : Answered) (done : AreDone (StepsBy n) s steps a.asked t) where
+      module _ (a : Answered) (done : AreDone Steps s steps a.asked t) where
         same : a.after ≡ rows → AreBacked a.after Now
         same is = subst (λ (x : Rows). AreBacked x Now) (sym is) still
 
         now_sent : (turn : Turn) (j p : ℕ) → a.asked ≡ record { event = ev.Send j; turn = turn } ∷ [] → IsTaken j turn.reply (sent_in turn.entries) p → ordered_postage j (counted Now) ≡ Some p
-        now_sent turn j p only taken = sent_order s steps t H turn j p stands (subst (λ (l : List _). AreDone (StepsBy n) s steps l t) only done) taken
+        now_sent turn j p only taken = sent_order s steps t H turn j p stands (subst (λ (l : List Asked). AreDone Steps s steps l t) only done) taken
 
         committed : (k : ℕ) (x : DepartmentRow) (text : List ℕ) → IsOrdered x Now → IsCommitted k x text rows a → AreBacked a.after Now
         committed k x text new (inl worn) = same worn.2
@@ -202,22 +199,22 @@ module _ (τ : Tariff) where
     abbrev AreAllBacked : Rows → Option CellCommit → Ledger → Type 0
     AreAllBacked rows failed H = AreBacked rows H × IsOrderedCommit failed H
 
-    backed_all : (s : SceneOf n) (rows : Rows) (H : Ledger) (trace : List (SideStep DepartmentLine)) (t : SceneOf n) (then : Rows) (failed : Option CellCommit) → StandsFor n τ s.bench H → AreBacked rows H
-        → AreUnforged τ Unforged H (steps_of trace) → AreAnswered (StepsBy n) s rows trace t then failed → AreAllBacked then failed (ledger_after τ H (steps_of trace))
+    backed_all : (s : B) (rows : Rows) (H : Ledger) (trace : List (SideStep DepartmentLine)) (t : B) (then : Rows) (failed : Option CellCommit) → ledger.At s H → AreBacked rows H
+        → AreUnforged τ Unforged H (steps_of trace) → AreAnswered Steps s rows trace t then failed → AreAllBacked then failed (ledger_after τ H (steps_of trace))
     backed_all s rows H [] t then failed stands b u did =
         (subst (λ (x : Rows). AreBacked x H) (sym did.1) b, subst (λ (o : Option CellCommit). IsOrderedCommit o H) (sym did.2) tt)
     backed_all s rows H (Plain (Skipped line) ∷ rest) t then failed stands b u did = backed_all s rows H rest t then failed stands b u did
     backed_all s rows H (Plain (Did line d) ∷ rest) t then failed stands b u did =
-        backed_all did.0 rows (ledger_by τ H d) rest t then failed (stands_then n τ texts tells s did.0 d H did.1.did.0 stands u.0) (λ k j p is. kept_by H d j p (b k j p is)) u.1 did.2
+        backed_all did.0 rows (ledger_by τ H d) rest t then failed (ledger.goes s did.0 d did.1.turn H did.1.did stands u.0) (λ k j p is. kept_by H d j p (b k j p is)) u.1 did.2
     backed_all s rows H (Own line own steps said ∷ rest) t then failed stands b u did =
         let told = did.2 in
-        let stands_now = stands_after n τ texts tells s did.0 steps H (did_events s steps told.asked did.0 told.done) stands (first_unforged H steps (steps_of rest) u) in
+        let stands_now = at_after s steps told.asked did.0 H told.done stands (first_unforged H steps (steps_of rest) u) in
         subst (λ (K : Ledger). AreAllBacked then failed K) (after_both H steps (steps_of rest))
         (backed_all did.0 did.1 (ledger_after τ H steps) rest t then failed stands_now
         (answered s did.0 rows H steps stands b (record { asked = told.asked; texts = said; after = did.1 }) told.done own told.answered) (rest_unforged H steps (steps_of rest) u) did.3)
     backed_all s rows H (Broken line own steps ∷ rest) t then failed stands b u did =
         let cut_off = did.2 in
-        let stands_now = stands_after n τ texts tells s did.0 steps H (did_events s steps cut_off.asked did.0 cut_off.done) stands (first_unforged H steps (steps_of rest) u) in
+        let stands_now = at_after s steps cut_off.asked did.0 H cut_off.done stands (first_unforged H steps (steps_of rest) u) in
         let more = backed_all did.0 rows (ledger_after τ H steps) rest t then None stands_now (still s did.0 rows H steps stands b) (rest_unforged H steps (steps_of rest) u) did.4 in
         let ordered = cut s did.0 rows H steps stands b (record { asked = cut_off.asked; texts = []; after = rows }) cut_off.done own did.1 cut_off.cut in
         let later : IsOrdered did.1.kept (ledger_after τ (ledger_after τ H steps) (steps_of rest)) = λ j p is. kept_after (ledger_after τ H steps) (steps_of rest) j p (ordered j p is) in
@@ -225,8 +222,8 @@ module _ (τ : Tariff) where
         (more.0, subst (λ (o : Option CellCommit). IsOrderedCommit o (ledger_after τ (ledger_after τ H steps) (steps_of rest))) (sym did.3) later)
 
     -- WHAT WAS BACKED BEFORE A RUN IS BACKED AFTER IT, also with the commit that failed
-    pub backed_after : (L : Ledger) (s : SceneOf n) (rows : Rows) (trace : List (SideStep DepartmentLine)) (t : SceneOf n) (then : Rows) (failed : Option CellCommit) → StandsFor n τ s.bench (Begin ∷ L) → AreBacked rows L
-        → AreUnforged τ Unforged (Begin ∷ L) (steps_of trace) → AreAnswered (StepsBy n) s rows trace t then failed
+    pub backed_after : (L : Ledger) (s : B) (rows : Rows) (trace : List (SideStep DepartmentLine)) (t : B) (then : Rows) (failed : Option CellCommit) → ledger.At s (Begin ∷ L) → AreBacked rows L
+        → AreUnforged τ Unforged (Begin ∷ L) (steps_of trace) → AreAnswered Steps s rows trace t then failed
         → AreBacked then (ledger_after τ (Begin ∷ L) (steps_of trace)) × AreBacked (with_commit failed then) (ledger_after τ (Begin ∷ L) (steps_of trace))
     backed_after L s rows trace t then failed stands b u did =
         let both = backed_all s rows (Begin ∷ L) trace t then failed stands (begun rows L b) u did in

@@ -5,15 +5,10 @@ use Rattle.bench_base.specs.Ledger.{Ledger}
 use Rattle.bench_base.specs.Rules.{editions}
 use Rattle.ledger_terms.specs.Editions.{Editions}
 use Rattle.ledger_moves.specs.Tariffs.{Tariff}
-use Rattle.bench_abstraction.specs.Tariff.{IsOfTexts}
-use Rattle.bench.specs.Benches.{Nodes}
-use Rattle.line_extensions.specs.Trace.{Skipped, Did}
+use Rattle.node_turns.specs.declared.turn.Turn.{Turn}
+use Rattle.line_extensions.specs.Trace.{StepRecord, Skipped, Did}
 use Rattle.line_extensions.specs.SideTrace.{SideStep, Plain, Own, Broken}
-use Rattle.script_replay.specs.Chains.{SceneOf}
 use Rattle.script_replay.specs.Trace.{ledger_by, ledger_after}
-use Rattle.script_replay.specs.Sides.{StepsBy}
-use Rattle.script_replay.specs.Throughout.{StandsFor}
-use Rattle.script_replay.proofs.Chains.{stands_then, stands_after}
 use Rattle.host_departments.specs.Answers.{Answered, IsTold, ByQuota, IsAnswered, CellCommit, AreAnswered}
 use Rattle.host_departments.specs.DepartmentLines.{IsLine}
 use Rattle.host_departments.specs.Follows.{TellsOrders, FollowLedger}
@@ -21,8 +16,9 @@ use Rattle.host_departments.specs.Holds.{AreBacked, DepartmentsHold}
 use Rattle.host_departments.specs.Rows.{Rows, spent}
 use Rattle.host_departments.specs.Texts.{spent_text}
 use Rattle.host_departments.specs.declared.{row.DepartmentLine.DepartmentLine, row.DepartmentLine.TheVariants.Quota, row.DepartmentLine.TheVariants.Assign, row.DepartmentLine.TheVariants.Spent, row.DepartmentLine.TheVariants.Print}
-use Rattle.host_departments.proofs.Backing.{begun, kept_by, did_events, still, answered}
+use Rattle.host_departments.proofs.Backing.{begun, kept_by, at_after, still, answered}
 use Rattle.host_departments.proofs.Holding.{departments_hold}
+use Rattle.host_departments.proofs.Tracking.{StepsLedger}
 
 told_orders : (own : DepartmentLine) (rows : Rows) (H : Ledger) (a : Answered) → DepartmentsHold rows H → IsLine own → IsAnswered own rows a → TellsOrders own rows H a.texts
 told_orders (Quota d q) rows H a holds line answer = tt
@@ -32,34 +28,31 @@ told_orders (Spent d) rows H a holds line answer = λ q is.
     told.texts ∙ ap (λ (sum : ℕ). spent_text d sum q ∷ []) (holds.spent d line)
 told_orders (Print j) rows H a holds line answer = tt
 
-module _ (τ : Tariff) (n : Nodes) (texts : IsOfTexts τ) (tells : n.storage.tells) (today : Editions editions) where
-  follow : (s : SceneOf n) (rows : Rows) (H : Ledger) (trace : List (SideStep DepartmentLine)) (t : SceneOf n) (then : Rows) (failed : Option CellCommit) → StandsFor n τ s.bench H → AreBacked rows H
-      → (answers : AreAnswered (StepsBy n) s rows trace t then failed) → FollowLedger (StepsBy n) τ H s rows trace t then failed answers
-  follow s rows H [] t then failed stands b did = departments_hold today τ H stands.history rows b
-  follow s rows H (Plain (Skipped line) ∷ rest) t then failed stands b did = follow s rows H rest t then failed stands b did
-  follow s rows H (Plain (Did line d) ∷ rest) t then failed stands b did = (
-    departments_hold today τ H stands.history rows b,
-    λ u. follow did.0 rows (ledger_by τ H d) rest t then failed (stands_then n τ texts tells s did.0 d H did.1.did.0 stands u) (λ k j p is. kept_by τ H d j p (b k j p is)) did.2,
+module _ (τ : Tariff) {B : Type 0} (Steps : B → B → StepRecord → Turn → Type 0) (ledger : StepsLedger τ Steps) (today : Editions editions) where
+  follow : (s : B) (rows : Rows) (H : Ledger) (trace : List (SideStep DepartmentLine)) (t : B) (then : Rows) (failed : Option CellCommit) → ledger.At s H → AreBacked rows H
+      → (answers : AreAnswered Steps s rows trace t then failed) → FollowLedger Steps τ H s rows trace t then failed answers
+  follow s rows H [] t then failed at b did = departments_hold today τ H (ledger.history s H at) rows b
+  follow s rows H (Plain (Skipped line) ∷ rest) t then failed at b did = follow s rows H rest t then failed at b did
+  follow s rows H (Plain (Did line d) ∷ rest) t then failed at b did = (
+    departments_hold today τ H (ledger.history s H at) rows b,
+    λ u. follow did.0 rows (ledger_by τ H d) rest t then failed (ledger.goes s did.0 d did.1.turn H did.1.did at u) (λ k j p is. kept_by τ H d j p (b k j p is)) did.2,
   )
-  follow s rows H (Own line own steps said ∷ rest) t then failed stands b did =
+  follow s rows H (Own line own steps said ∷ rest) t then failed at b did =
       let told = did.2 in
-      let holds = departments_hold today τ H stands.history rows b in
+      let holds = departments_hold today τ H (ledger.history s H at) rows b in
       let a : Answered = record { asked = told.asked; texts = said; after = did.1 } in (
         holds,
         told_orders own rows H a holds told.line told.answered,
-        λ u.
-            let stands_now = stands_after n τ texts tells s did.0 steps H (did_events τ n texts tells today s steps told.asked did.0 told.done) stands u in
-            follow did.0 did.1 (ledger_after τ H steps) rest t then failed stands_now (answered τ n texts tells today s did.0 rows H steps stands b a told.done own told.answered) did.3,
+        λ u. follow did.0 did.1 (ledger_after τ H steps) rest t then failed (at_after τ Steps ledger today s steps told.asked did.0 H told.done at u)
+            (answered τ Steps ledger today s did.0 rows H steps at b a told.done own told.answered) did.3,
       )
-  follow s rows H (Broken line own steps ∷ rest) t then failed stands b did =
+  follow s rows H (Broken line own steps ∷ rest) t then failed at b did =
       let cut_off = did.2 in (
-        departments_hold today τ H stands.history rows b,
-        λ u.
-            let stands_now = stands_after n τ texts tells s did.0 steps H (did_events τ n texts tells today s steps cut_off.asked did.0 cut_off.done) stands u in
-            follow did.0 rows (ledger_after τ H steps) rest t then None stands_now (still τ n texts tells today s did.0 rows H steps stands b) did.4,
+        departments_hold today τ H (ledger.history s H at) rows b,
+        λ u. follow did.0 rows (ledger_after τ H steps) rest t then None (at_after τ Steps ledger today s steps cut_off.asked did.0 H cut_off.done at u) (still τ Steps ledger today s did.0 rows H steps at b) did.4,
       )
 
   -- from the beginning of a run on
-  pub follow_all : (L : Ledger) (s : SceneOf n) (rows : Rows) (trace : List (SideStep DepartmentLine)) (t : SceneOf n) (then : Rows) (failed : Option CellCommit) → StandsFor n τ s.bench (Begin ∷ L)
-      → AreBacked rows L → (answers : AreAnswered (StepsBy n) s rows trace t then failed) → FollowLedger (StepsBy n) τ (Begin ∷ L) s rows trace t then failed answers
-  follow_all L s rows trace t then failed stands b answers = follow s rows (Begin ∷ L) trace t then failed stands (begun rows L b) answers
+  pub follow_all : (L : Ledger) (s : B) (rows : Rows) (trace : List (SideStep DepartmentLine)) (t : B) (then : Rows) (failed : Option CellCommit) → ledger.At s (Begin ∷ L)
+      → AreBacked rows L → (answers : AreAnswered Steps s rows trace t then failed) → FollowLedger Steps τ (Begin ∷ L) s rows trace t then failed answers
+  follow_all L s rows trace t then failed at b answers = follow s rows (Begin ∷ L) trace t then failed at (begun rows L b) answers

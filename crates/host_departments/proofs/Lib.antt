@@ -1,3 +1,6 @@
+pub mod Tracking
+pub mod Stored
+pub mod Agreeing
 pub mod Payloads
 pub mod Keeping
 pub mod Meanwhile

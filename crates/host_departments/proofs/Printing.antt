@@ -6,7 +6,6 @@ use Rattle.bench_base.specs.declared.{events.Event.Event, events.Reply.Reply}
 use Rattle.bench_base.specs.declared.events.Event.TheVariants as ev
 use Rattle.bench_base.specs.declared.events.Reply.TheVariants as r
 use Rattle.bench_base.specs.Replies.{MayGet}
-use Rattle.nv_model.specs.declared.nv.Nv as nv
 use Rattle.node_acts.specs.RowList.{put}
 use Rattle.node_turns.specs.declared.turn.Turn.{Turn}
 use Rattle.bench_abstraction.specs.Routing.{as_given, as_given_by, as_scanned_by}
@@ -15,9 +14,9 @@ use Rattle.line_extensions.specs.Trace.{StepRecord, Skipped, Did}
 use Rattle.line_extensions.specs.Events.{IsLineOf}
 use Rattle.line_extensions.specs.SideTrace.{SideStep, Plain, Own, Broken, steps_of}
 use Rattle.host_departments.specs.Answers.{Asked, Answered, IsTold, IsCommitted, IsTakenIn, IsSent, IsAssignTold, ByQuota, IsAnswered, CellCommit, IsCutShort, AreDone, AreAnswered}
-use Rattle.host_departments.specs.Moves.{Either}
+use Rattle.host_departments.specs.Moves.{Either, Keeper}
 use Rattle.host_departments.specs.DepartmentLines.{IsLine}
-use Rattle.host_departments.specs.DepartmentsExtension.{departments_desk}
+use Rattle.host_departments.specs.ByKeeper.{by_keeper}
 use Rattle.std.specs.List.{AllByRecursion}
 use Rattle.line_runs.specs.Trace.{Reads}
 use Rattle.line_extensions.specs.Desks.{side_lines}
@@ -161,7 +160,7 @@ cut_prints_none (Print j) rows asked c cut = absurd cut
 
 -- == a script ==
 
-module _ {N : Type 0} (g : nv.Ghosts N) {B : Type 0} (Steps : B → B → StepRecord → Turn → Type 0) (prints : (s t : B) (d : StepRecord) (turn : Turn) → Steps s t d turn → (j : ℕ) → d.reply ≡ r.Printed j → d.event ≡ ev.Print j) where
+module _ {S : Type 0} (keep : Keeper S) {B : Type 0} (Steps : B → B → StepRecord → Turn → Type 0) (prints : (s t : B) (d : StepRecord) (turn : Turn) → Steps s t d turn → (j : ℕ) → d.reply ≡ r.Printed j → d.event ≡ ev.Print j) where
   all_stay : (s : B) (rows : Rows) (trace : List (SideStep DepartmentLine)) (t : B) (after : Rows) (failed : Option CellCommit) → AreAnswered Steps s rows trace t after failed → Stays rows after
   all_stay s rows [] t after failed did = stays_same rows after did.1
   all_stay s rows (Plain (Skipped line) ∷ rest) t after failed did = all_stay s rows rest t after failed did
@@ -181,7 +180,7 @@ module _ {N : Type 0} (g : nv.Ghosts N) {B : Type 0} (Steps : B → B → StepRe
   both_assigned after [] b first second = second
   both_assigned after (d ∷ a) b first second = (first.0, both_assigned after a b first.1 second)
 
-  pub all_printed : (s : B) (rows : Rows) (trace : List (SideStep DepartmentLine)) (t : B) (after : Rows) (failed : Option CellCommit) → AllByRecursion (Reads (side_lines (departments_desk g))) trace
+  pub all_printed : (s : B) (rows : Rows) (trace : List (SideStep DepartmentLine)) (t : B) (after : Rows) (failed : Option CellCommit) → AllByRecursion (Reads (side_lines (by_keeper keep))) trace
       → AreAnswered Steps s rows trace t after failed → AllAssigned after (steps_of trace)
   all_printed s rows [] t after failed reads did = tt
   all_printed s rows (Plain (Skipped line) ∷ rest) t after failed reads did = all_printed s rows rest t after failed reads.1 did

@@ -114,7 +114,7 @@ module _ (rows : Rows) (d n j p : ℕ) (is_d : IsDepartment d) (jobs : HasJobs r
   job_at k i is keeps =
       let here : Some j ≡ Some i = sym (ap (λ (o : Option DepartmentRow). job_in o) (ap (λ (m : ℕ). row_in with_job m) is ∙ job_now)) ∙ keeps in cc
 
-  kept_else : (k i : ℕ) → k ≢ first_cell d + n → Keeps with_job k i → Keeps rows k i
+  pub kept_else : (k i : ℕ) → k ≢ first_cell d + n → Keeps with_job k i → Keeps rows k i
   kept_else k i differs keeps = sym (ap (λ (o : Option DepartmentRow). job_in o) (row_else rows (first_cell d + n) (Job j p) k differs)) ∙ keeps
 
   mine_ordered : AreInOrder rows d → AreInOrder with_job d

@@ -1,5 +1,6 @@
 -- Promised: public contracts name these.
 pub mod Answers
+pub mod ByKeeper
 pub mod Courses
 pub mod DepartmentLines
 pub mod DepartmentsExtension

@@ -1,7 +1,7 @@
 -- The quotas and jobs that are kept, by their cells.
-use Rattle.std.specs.Prelude.{◌≡◌, ◌≢◌, ◌<◌, ◌≤◌, ℕ, zero, suc, ◌+◌, ◌-◌, ◌*◌, ◌/◌, Option, Some, None, IsSome}
+use Rattle.std.specs.Prelude.{◌≡◌, ◌≢◌, ◌<◌, ◌≤◌, ℕ, zero, suc, ◌+◌, ◌-◌, ◌*◌, ◌/◌, length, Option, Some, None, IsSome}
 use Rattle.node_acts.specs.RowList.{RowList, row_at, row_of}
-use Rattle.host_departments.specs.declared.{row.DepartmentRow.DepartmentRow, row.DepartmentRow.TheVariants.Quota, row.DepartmentRow.TheVariants.Job}
+use Rattle.host_departments.specs.declared.{row.DepartmentRow.DepartmentRow, row.DepartmentRow.TheVariants.Quota, row.DepartmentRow.TheVariants.Job, row.TheConstants.CELLS}
 
 abbrev pub Rows : Type 0
 Rows = RowList DepartmentRow
@@ -107,3 +107,9 @@ IsSoundAt rows d = AreInOrder rows d × (spent rows d ≤ or_zero (quota rows d)
 pub record IsSound (rows : Rows) : Type 0 where
   pub each : (d : ℕ) → IsDepartment d → IsSoundAt rows d
   pub once : (j k l : ℕ) → Keeps rows k j → Keeps rows l j → k ≡ l
+
+-- THE ROWS OF DEPARTMENTS, whoever keeps them: they have 1,040 cells and agree, and jobs are kept after the quotas.
+pub record Agree (rows : Rows) : Type 0 where
+  pub cells : length rows ≡ CELLS
+  pub jobs : (k j : ℕ) → Keeps rows k j → 16 ≤ k
+  pub sound : IsSound rows

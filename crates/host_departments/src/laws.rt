@@ -7,8 +7,12 @@ ghost use Rattle.row_node.specs.Shows.{ShowsRows};
 ghost use Rattle.host_departments.specs.Holds.{AreBacked};
 ghost use Rattle.host_departments.specs.Isolation.{AreIsolated};
 ghost use Rattle.host_departments.specs.Payload.{decoded};
-ghost use Rattle.host_departments.specs.Rows.{Rows, row_in};
+ghost use Rattle.host_departments.specs.Rows.{Agree, Rows, row_in};
+ghost use Rattle.host_departments.specs.View.{rows_of};
+ghost use Rattle.host_departments.specs.declared.desk.Departments.{Departments as TheDepartments};
 ghost use Rattle.host_departments.specs.declared.row.TheConstants.{CELLS};
+
+use nv_model::Nv;
 
 /// A department does not see the others' quotas and postage. Each line of it has the same answer if the same was committed of it, the
 /// same jobs are others', and the messages were answered by the same texts with the same postage.
@@ -35,4 +39,11 @@ pub fn blank_shows_no_rows()
         → ShowsRows 12 CELLS (ReadsAs decoded) rows (replicate bytes 0) }
     ensures none { (rows : Rows) (bytes : ℕ) → length rows ≡ CELLS
         → ShowsRows 12 CELLS (ReadsAs decoded) rows (replicate bytes 0) → (k : ℕ) → row_in rows k ≡ None }
+{}
+
+/// What departments keep agrees, whatever was committed: 1,040 cells, the jobs of each department in order behind the quotas and within its quota, and each
+/// job in one cell. So does a list in which nothing is kept (`none`).
+pub fn kept_agrees<N: Nv>()
+    ensures kept { (desk : TheDepartments N N.Nv) → Agree (rows_of desk) }
+    ensures none { (rows : Rows) → length rows ≡ CELLS → ((k : ℕ) → row_in rows k ≡ None) → Agree rows }
 {}
