@@ -5,6 +5,7 @@ pub mod ClaimsKept
 pub mod ClaimsModel
 pub mod Compared
 pub mod Covered
+pub mod DepartmentsHold
 pub mod DepartmentsModel
 pub mod Forgetting
 pub mod Lined

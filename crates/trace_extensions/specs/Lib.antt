@@ -1,6 +1,7 @@
 -- Promised: public contracts name these.
 pub mod ClaimsKept
 pub mod ClaimsModel
+pub mod DepartmentsHold
 pub mod DepartmentsModel
 pub mod Fits
 pub mod Kept

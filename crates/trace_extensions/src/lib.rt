@@ -4,6 +4,7 @@
 mod asking;
 pub mod claims_law;
 mod comparing;
+pub mod departments_law;
 mod extension;
 mod handler;
 pub mod laws;
