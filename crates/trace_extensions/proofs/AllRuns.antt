@@ -1,5 +1,5 @@
 -- Several runs of all words, one after the other.
-use Rattle.std.proofs.Common.{◌≡◌, ◌⊎◌, inl, inr, List, [], ◌∷◌, Some, refl, sym, ◌∙◌, ap, subst}
+use Rattle.std.proofs.Common.{◌≡◌, inl, inr, List, [], ◌∷◌, Option, refl, sym, ◌∙◌, ap, subst}
 use Rattle.std.specs.List.{AllByRecursion}
 use Rattle.bench_base.specs.declared.{events.Reply.Reply, ledger.Entry.TheVariants.Begin}
 use Rattle.bench_base.specs.Ledger.{Ledger}
@@ -13,19 +13,18 @@ use Rattle.script_text.specs.Texts.{text_of, IsWholeReply, told}
 use Rattle.line_runs.specs.Lines.{IsOneLine}
 use Rattle.trace_bench.specs.Seeing.{Audit, Sees}
 use Rattle.trace_runs.specs.Between.{SeesBetween}
-use Rattle.trace_runs.specs.Runs.{Papers, FindsNothing as FindsNothingIn}
-use Rattle.trace_runs.specs.Verdicts.{Says, status_of}
-use Rattle.trace_runs.specs.declared.{verdict.Ending.Ending, verdict.Verdict.Verdict}
+use Rattle.trace_runs.specs.Runs.{Papers}
+use Rattle.trace_runs.specs.Verdicts.{status_of}
+use Rattle.trace_runs.specs.declared.{verdict.Ending.Ending}
 use Rattle.trace_runs.proofs.Alike.{between}
 use Rattle.trace_runs.proofs.EachRun.{run_history, run_fits, run_seen, run_found}
 use Rattle.trace_extensions.specs.ClaimsModel.{Standing, claims_model}
 use Rattle.trace_extensions.specs.DepartmentsModel.{Kept, departments_model}
-use Rattle.trace_extensions.specs.Fits.{FitsSo, IsLeftSo, FitsIfLawful, LawfulIfFits, IsOpen as IsOpenIn}
+use Rattle.trace_extensions.specs.Fits.{FitsSo, IsLeftSo}
 use Rattle.trace_extensions.specs.ManifestModel.{ManifestView, manifest_model}
-use Rattle.trace_extensions.specs.StatementModel.{statement_model}
-use Rattle.trace_extensions.specs.declared.{papers.SideVerdict.SideVerdict, papers.SideVerdict.TheVariants.Lawful}
+use Rattle.trace_extensions.specs.declared.{papers.Reach.Reach, papers.SideVerdict.SideVerdict}
 use Rattle.trace_extensions.specs.Words.{Word, OfClaims, OfDepartments, OfManifests, OfStatements, Beside, View, model_of, StartsWith, left_beside}
-use Rattle.trace_extensions.specs.Runs.{Run, FitsUnder, FitsOne, Fit, Judged, EventsJudged, UnderJudged, IsJudged, beside_after, run_of, AuditedRun, AreAudited, runs_of, FindsNothing, IsOpen, AreExact}
+use Rattle.trace_extensions.specs.Runs.{FitsOne, Fit, Judged, EventsJudged, UnderJudged, IsJudged, beside_after, run_of, AuditedRun, AreAudited, runs_of, FindsNothing, IsOpen, AreExact}
 use Rattle.trace_extensions.proofs.Forgetting.{fits_from}
 use Rattle.trace_extensions.proofs.Said.{claims_forget, departments_forget, manifests_forget}
 
@@ -61,10 +60,10 @@ module _ (one : (x y : Reply) → IsWholeReply x → IsWholeReply y → text_of 
   module _ (τ : Tariff) (H : Ledger) (texts : IsOfTexts τ) (history : History τ editions H) (a b : Audit) (seen : SeesBetween a H) where
     -- == one run ==
 
-    left_so : (k l : Beside) (w : Word) (p : Papers) (x y : View w) (v : SideVerdict) (K : Ledger) (end : Ending)
+    left_so : (k l : Beside) (w : Word) (p : Papers) (x y : View w) (reach : Option Reach) (v : SideVerdict) (K : Ledger) (end : Ending)
         (fits : FitsSo (model_of w) τ (Begin ∷ H) p.script p.report p.rates x (status_of end))
-        → K ≡ fits.run.did.behind.scene.ledger → l ≡ left_beside w k fits.run.did.behind.desk → IsLeftSo τ b y fits.run.did.behind → Leaves τ b K k l (UnderJudged w p x y v)
-    left_so k l w p x y v K end fits ledger beside left = record {
+        → K ≡ fits.run.did.behind.scene.ledger → l ≡ left_beside w k fits.run.did.behind.desk → IsLeftSo τ b y fits.run.did.behind → Leaves τ b K k l (UnderJudged w p x y reach v)
+    left_so k l w p x y reach v K end fits ledger beside left = record {
       history = subst (λ (X : Ledger). History τ editions X) (sym ledger) left.history;
       sees = between b K (subst (λ (X : Ledger). Sees b X) (sym ledger) left.sees);
       beside = beside ∙ ap (λ (z : View w). left_beside w k z) left.kept;
@@ -82,14 +81,14 @@ module _ (one : (x y : Reply) → IsWholeReply x → IsWholeReply y → text_of 
             beside = refl;
           },
         )
-    one_fits k (UnderJudged w p x y v) judged nothing =
+    one_fits k (UnderJudged w p x y reach v) judged nothing =
         let s = judged.1 nothing.0 nothing.1 τ H texts history seen in
         let K = s.0.run.did.behind.scene.ledger in
         let l = left_beside w k s.0.run.did.behind.desk in (
           K,
           l,
           record { before = x; starts = judged.0; end = nothing.0; fits = s.0; ledger = refl; beside = refl },
-          left_so k l w p x y v K nothing.0 s.0 refl refl s.1,
+          left_so k l w p x y reach v K nothing.0 s.0 refl refl s.1,
         )
 
     one_found : (k : Beside) (r : Judged) → IsJudged a k r b → (IsOpen r → ⊥) → (K : Ledger) (l : Beside) → FitsOne τ H k (run_of r) K l → FindsNothing r × Leaves τ b K k l r
@@ -102,10 +101,10 @@ module _ (one : (x y : Reply) → IsWholeReply x → IsWholeReply y → text_of 
             beside = fits.1;
           },
         )
-    one_found k (UnderJudged w p x y v) judged closed K l fits =
+    one_found k (UnderJudged w p x y reach v) judged closed K l fits =
         let g = from_each τ H k w p fits.before x fits.end K l fits.starts judged.0 (fits.fits, fits.ledger, fits.beside) in
         elim (judged.2 fits.end τ H texts history seen g.0) [
-          | inl found ↦ ((fits.end, found.0), left_so k l w p x y v K fits.end g.0 g.1 g.2 found.1)
+          | inl found ↦ ((fits.end, found.0), left_so k l w p x y reach v K fits.end g.0 g.1 g.2 found.1)
           | inr left_open ↦ absurd (closed left_open)
         ]
 

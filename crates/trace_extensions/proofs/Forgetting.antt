@@ -3,16 +3,14 @@ use Rattle.std.proofs.Common.{◌≡◌, ℕ, List, [], ◌∷◌, refl, sym, �
 use Rattle.bench_base.specs.Ledger.{Ledger}
 use Rattle.ledger_moves.specs.Tariffs.{Tariff}
 use Rattle.node_turns.specs.declared.turn.Turn.{Turn}
-use Rattle.line_runs.specs.Runs.{Replayed}
 use Rattle.line_runs.specs.declared.status.Status.{Status}
-use Rattle.line_runs.specs.declared.status.SideStatus.TheVariants.{Run}
 use Rattle.line_extensions.specs.Trace.{StepRecord, Skipped, Did}
-use Rattle.line_extensions.specs.Desks.{World, world, Asks, DidOwn, DidPlain, Answered, DoesOne, Does}
+use Rattle.line_extensions.specs.Desks.{World, world, Asks, DidOwn, DoesOne, Does}
 use Rattle.line_extensions.specs.SideTrace.{SideStep, Plain, Own, Broken}
 use Rattle.line_extensions.specs.declared.{extension.Next.Next}
 use Rattle.trace_extensions.specs.Fits.{FitsSo}
 use Rattle.trace_extensions.specs.Models.{Model, by_model}
-use Rattle.trace_extensions.specs.Places.{Place, place, MayStep}
+use Rattle.trace_extensions.specs.Places.{place, MayStep}
 
 pub record Forgets {V : Type 0} (m : Model V) (Like : V → V → Type 0) : Type 0 where
   pub same : (a : V) → Like a a

@@ -1,5 +1,5 @@
 -- What became of one line of an audit.
-use Rattle.std.proofs.Common.{◌≡◌, ◌≢◌, ◌⊎◌, inl, inr, ℕ, List, [], ◌++◌, flat_map, Option, Some, None, IfNone, IfSome, refl, sym, ap, subst}
+use Rattle.std.proofs.Common.{◌≡◌, ◌≢◌, ◌⊎◌, inl, inr, ℕ, List, [], ◌++◌, flat_map, Option, Some, None, IfNone, IfSome, refl, sym, ap, ◌∙◌, subst}
 use Rattle.std.proofs.KnownBytes.{Appends-nil, Consumes-nil}
 use Rattle.std.specs.Io.KnownBytes.{Consumes, IsAtEnd}
 use Rattle.std.specs.List.{AllByRecursion}
@@ -11,6 +11,7 @@ use Rattle.ledger_moves.specs.Tariffs.{Tariff}
 use Rattle.ledger_moves.specs.Histories.{moves}
 use Rattle.node_turns.specs.declared.turn.Turn.{Turn}
 use Rattle.script_text.specs.Grammar.{Spells, IsSkipped}
+use Rattle.script_text.proofs.EachEvent.{one_event_of, no_event_skipped}
 use Rattle.line_runs.specs.Lines.{IsOneLine, ended}
 use Rattle.line_runs.specs.Turns.{Reported, LineEnd}
 use Rattle.line_runs.specs.declared.status.Status.TheVariants as status
@@ -24,16 +25,21 @@ use Rattle.line_extensions.specs.declared.{extension.Extension.Ghosts, extension
 use Rattle.script_replay.specs.Trace.{ledger_by}
 use Rattle.trace_bench.specs.Seeing.{Audit, Sees, keeps}
 use Rattle.trace_bench.specs.Stopping.{IsPrefixOf}
-use Rattle.trace_extensions.specs.Exact.{EachReply, HasNext, MayBe, EachMayBe, MayAnswer, IsMet}
-use Rattle.trace_extensions.specs.Fits.{IsOpen, IsText}
-use Rattle.trace_extensions.specs.Models.{Model, by_model, IsModelOf, IsDetermined, TellsFailures}
+use Rattle.trace_runs.specs.Between.{SeesBetween}
+use Rattle.trace_runs.specs.Fitting.{BeginsTold}
+use Rattle.trace_runs.specs.Runs.{StopLeaves}
+use Rattle.trace_extensions.specs.Exact.{EachReply, HasNext, MayBe, EachMayBe, MayAnswer, IsMet, EachLeft, EachOwnLeft, NoStop, TellsStops}
+use Rattle.trace_extensions.specs.Fits.{IsCutShort, IsOpen, IsText}
+use Rattle.trace_extensions.specs.FitsStopped.{EventStopped, OwnStopped, not_begun, all_of_it, part_of_it, TellsStop, TellsOwnStop}
+use Rattle.trace_extensions.specs.Models.{Model, by_model, AreAlike, IsModelOf, IsDetermined, TellsFailures}
 use Rattle.trace_extensions.specs.Places.{Place, place, turn_at, MayStep}
 use Rattle.trace_extensions.specs.Steps.{AuditWorld, audit_world, IsStop, IsKnown, Passed, Heard, Own, Begun, Ended, audit_lines}
 use Rattle.trace_extensions.specs.Takes.{AtEachSeen, TakesLine, EndsWithin}
 use Rattle.trace_extensions.specs.Worlds.{AuditLeaves, AskedSo, DidAudit, LeftSo, all_asked, one_begun, ReadsInOwn}
 use Rattle.trace_extensions.specs.Stops.{LeftAt, event_begun, none_begun, own_done, own_begun}
+use Rattle.trace_extensions.proofs.StoppedFits.{open_undecided}
 use Rattle.trace_extensions.proofs.OnlyLines.{OwnMayBe, if_skipped, if_passed, if_own, met_event}
-use Rattle.trace_extensions.specs.declared.papers.SideVerdict.{SideVerdict}
+use Rattle.trace_extensions.specs.declared.papers.{Reach.Reach, SideVerdict.SideVerdict}
 use Rattle.trace_extensions.specs.declared.papers.SideVerdict.TheVariants as verdict
 
 neither : (v : SideVerdict) → ((n : ℕ) → v ≡ verdict.Stopped n → ⊥) → ((n : ℕ) → v ≡ verdict.StoppedInOwn n → ⊥) → ((n : ℕ) × ((v ≡ verdict.Stopped n) ⊎ (v ≡ verdict.StoppedInOwn n))) → ⊥
@@ -54,10 +60,50 @@ is_stop (verdict.Lawful end) = inr (neither (verdict.Lawful end) (λ n is. absur
 is_stop (verdict.Unread input) = inr (neither (verdict.Unread input) (λ n is. absurd (cc is)) (λ n is. absurd (cc is)))
 is_stop verdict.Memory = inr (neither verdict.Memory (λ n is. absurd (cc is)) (λ n is. absurd (cc is)))
 
-module _ {K T : Type 0} (k : Ghosts K T) {V : Type 0} (view : K → V) (m : Model V) (modelled : IsModelOf k view m) (det : IsDetermined m) (alone : (own : k.Own) (line : List ℕ) → k.IsOwn own line → IsAlone line)
+module _ {K T : Type 0} (k : Ghosts K T) {V : Type 0} (view : K → V) (m : Model V) (modelled : IsModelOf k view m) (det : IsDetermined m) (alike : AreAlike m) (alone : (own : k.Own) (line : List ℕ) → k.IsOwn own line → IsAlone line)
     (number : ℕ) (line : List ℕ) where
   abbrev pub End : Option SideStatus → AuditWorld K → AuditWorld K → Option (List ℕ) → Option (List ℕ) → Type 0
   End outcome old new taken0 taken1 = LineEnd (audit_lines k) (DidAudit k view m) AuditLeaves number line outcome old new taken0 taken1
+
+  -- == where no run was stopped ==
+
+  -- an own line at which a run was stopped is one
+  own_of : (τ : Tariff) (at : World Place V) (told : List ℕ) (L : Ledger) (kept : V) → OwnStopped m τ at line told L kept → m.IsOwn line
+  own_of τ at told L kept (not_begun own x) = own
+  own_of τ at told L kept (all_of_it own x) = own
+  own_of τ at told L kept (part_of_it own x) = own
+
+  -- and the extension began it
+  began : (τ : Tariff) (at : World Place V) (told : List ℕ) (L : Ledger) (kept : V) → OwnStopped m τ at line told L kept → (first : Next) × (desk : V) × m.Begins at.desk line first desk
+  began τ at told L kept (not_begun own x) = (x.first, x.desk, x.begins)
+  began τ at told L kept (all_of_it own x) = (x.did.first, x.did.desk, x.did.begins)
+  began τ at told L kept (part_of_it own x) = (x.did.first, x.did.desk, x.did.begins)
+
+  -- at a line that is skipped
+  skipped_stops : (τ : Tariff) (at : World Place V) (report : Option (List ℕ)) → IsSkipped line → NoStop m τ at line report
+  skipped_stops τ at report is = record {
+    event = λ told L kept stop report_is. no_event_skipped stop.event line stop.is.spells is;
+    own = λ told L kept stop report_is. let w = (modelled.own line).0 (own_of τ at told L kept stop) in (alone w.0 line w.1).not_skipped is;
+  }
+
+  -- a line that is left to the bench is no own one
+  passed_not_own : (τ : Tariff) (at : World Place V) (told : List ℕ) (L : Ledger) (kept : V) → m.Passes at.desk line → OwnStopped m τ at line told L kept → ⊥
+  passed_not_own τ at told L kept passes stop = let w = began τ at told L kept stop in det.apart at.desk w.1 line w.0 w.2 passes
+
+  -- a line that was begun is not left to the bench
+  begun_not_passed : (τ : Tariff) (at : World Place V) (told : List ℕ) (L : Ledger) (kept : V) (first : Next) (desk : V) → m.Begins at.desk line first desk → EventStopped m τ at line told L kept → ⊥
+  begun_not_passed τ at told L kept first desk begins stop = det.apart at.desk desk line first begins stop.passes
+
+  -- the event at which a run was stopped is that of the line
+  stopped_event : (τ : Tariff) (at : World Place V) (told : List ℕ) (L : Ledger) (kept : V) (e : Event) → IsLineOf e line → (stop : EventStopped m τ at line told L kept)
+      → BeginsTold τ at.scene.ledger at.scene.left e told × StopLeaves τ at.scene.ledger e at.scene.left told L
+  stopped_event τ at told L kept e is stop =
+      let same : stop.event ≡ e = one_event_of stop.event e line stop.is.whole is.whole stop.is.spells is.spells in (
+        subst (λ (x : Event). BeginsTold τ at.scene.ledger at.scene.left x told) same stop.begins,
+        subst (λ (x : Event). StopLeaves τ at.scene.ledger x at.scene.left told L) same stop.leaves,
+      )
+
+  -- == lines ==
 
   pub skipped : (w : AuditWorld K) (taken : Option (List ℕ)) → IsSkipped line → End None w w taken taken
   skipped w taken is = LineEnd.did (record {
@@ -66,11 +112,15 @@ module _ {K T : Type 0} (k : Ghosts K T) {V : Type 0} (view : K → V) (m : Mode
     is = is;
     did = record {
       kept = refl;
+      reach = refl;
       took = (w, Consumes-nil w.report, refl);
       may = λ τ H texts history sees. record { history = history; sees = sees; left = refl; desk = refl };
-      only = λ τ H texts history sees mid told b may.
-          let so = if_skipped k view m modelled det alone τ (world (place H w.rates) (view w.desk)) mid line w.report told is b may in
-          (subst (λ (at : World Place V). IsMet view τ w.audit w.rates w.desk at) (sym so.0) (record { history = history; sees = sees; left = refl; kept = refl }), so.1);
+      only = λ τ H texts history sees. (
+        skipped_stops τ (world (place H w.rates) (view w.desk)) w.report is,
+        λ mid told b may.
+            let so = if_skipped k view m modelled det alone τ (world (place H w.rates) (view w.desk)) mid line w.report told is b may in
+            (subst (λ (at : World Place V). IsMet view τ w.audit w.rates w.desk at) (sym so.0) (record { history = history; sees = sees; left = refl; kept = refl }), so.1),
+      );
     };
     reported = (tt, Appends-nil taken);
   })
@@ -82,12 +132,16 @@ module _ {K T : Type 0} (k : Ghosts K T) {V : Type 0} (view : K → V) (m : Mode
 
   -- whatever may have been done for the line, the verdict leaves it open
   abbrev pub Missed : AuditWorld K → AuditWorld K → Type 0
-  Missed old new = AtEachSeen old.audit (λ τ H. EachMayBe m τ (world (place H old.rates) (view old.desk)) line old.report (λ mid told. IsOpen new.verdict))
+  Missed old new = AtEachSeen old.audit (λ τ H. EachMayBe m τ (world (place H old.rates) (view old.desk)) line old.report (λ mid told. IsOpen new.reach new.verdict))
+
+  -- if a run was stopped there, that is told
+  abbrev pub Told : AuditWorld K → AuditWorld K → Type 0
+  Told old new = AtEachSeen old.audit (λ τ H. TellsStops m τ (world (place H old.rates) (view old.desk)) line old.report view new)
 
   -- the audit ended
-  pub ends : (old new : AuditWorld K) (taken : Option (List ℕ)) → keeps new.audit ≡ keeps old.audit → IsOpen new.verdict ⊎ IsKnown k.IsOwn line → Missed old new → (IsStop new → EndsAt old new)
-      → End (Some Stopped) old new taken taken
-  ends old new taken kept known missed stops = by (is_stop new.verdict)
+  pub ends : (old new : AuditWorld K) (taken : Option (List ℕ)) → keeps new.audit ≡ keeps old.audit → new.reach ≡ old.reach → IsOpen new.reach new.verdict ⊎ IsKnown k.IsOwn line → Missed old new → Told old new
+      → (IsStop new → EndsAt old new) → End (Some Stopped) old new taken taken
+  ends old new taken kept reach known missed told stops = by (is_stop new.verdict)
     where
       by : ((n : ℕ) × ((new.verdict ≡ verdict.Stopped n) ⊎ (new.verdict ≡ verdict.StoppedInOwn n))) ⊎ (((n : ℕ) × ((new.verdict ≡ verdict.Stopped n) ⊎ (new.verdict ≡ verdict.StoppedInOwn n))) → ⊥)
           → End (Some Stopped) old new taken taken
@@ -97,35 +151,68 @@ module _ {K T : Type 0} (k : Ghosts K T) {V : Type 0} (view : K → V) (m : Mode
             trace_step = Begun line at.0 new;
             line_is = refl;
             is = known;
-            did = record { kept = kept; took = (at.1, at.2, refl); may = λ τ H texts history sees. (history, at.3 τ H texts history sees); only = missed };
+            did = record {
+              kept = kept;
+              reach = reach;
+              took = (at.1, at.2, refl);
+              may = λ τ H texts history sees. (history, at.3 τ H texts history sees);
+              only = λ τ H texts history sees. (told τ H texts history sees, missed τ H texts history sees);
+            };
             reported = (tt, refl);
           })
       by (inr none) = LineEnd.did (record {
         trace_step = Ended line new;
         line_is = refl;
         is = (none, known);
-        did = record { kept = kept; took = refl; may = λ τ H texts history sees. tt; only = missed };
+        did = record {
+          kept = kept;
+          reach = reach;
+          took = refl;
+          may = λ τ H texts history sees. tt;
+          only = λ τ H texts history sees. (told τ H texts history sees, missed τ H texts history sees);
+        };
         reported = (tt, refl);
       })
 
+  -- a verdict that leaves it open tells of each stop
+  open_told : (old new : AuditWorld K) → IsOpen new.reach new.verdict → Told old new
+  open_told old new is_open = λ τ H texts history sees. record {
+    event = λ told L kept stop report_is. inr is_open;
+    own = λ told L kept stop report_is. inr (open_undecided new.reach new.verdict is_open);
+  }
+
   -- no stop is said
-  pub ends_without : (old new : AuditWorld K) (taken : Option (List ℕ)) → keeps new.audit ≡ keeps old.audit → IsOpen new.verdict → ((n : ℕ) → new.verdict ≡ verdict.Stopped n → ⊥)
+  pub ends_without : (old new : AuditWorld K) (taken : Option (List ℕ)) → keeps new.audit ≡ keeps old.audit → new.reach ≡ old.reach → IsCutShort new.verdict → ((n : ℕ) → new.verdict ≡ verdict.Stopped n → ⊥)
       → ((n : ℕ) → new.verdict ≡ verdict.StoppedInOwn n → ⊥) → End (Some Stopped) old new taken taken
-  ends_without old new taken kept is_open none own = ends old new taken kept (inl is_open) (λ τ H texts history sees mid told b may. is_open) by
+  ends_without old new taken kept reach cut none own = ends old new taken kept reach (inl (inl cut)) (λ τ H texts history sees mid told b may. inl cut) (open_told old new (inl cut)) by
     where
       by : IsStop new → EndsAt old new
       by (n, inl is) = absurd (none n is)
       by (n, inr is) = absurd (own n is)
 
   -- the answer to an event was not taken
-  pub untaken : (old new : AuditWorld K) (taken : Option (List ℕ)) (e : Event) → keeps new.audit ≡ keeps old.audit → IsLineOf e line → k.Passes old.desk line → new.desk ≡ old.desk
+  pub untaken : (old new : AuditWorld K) (taken : Option (List ℕ)) (e : Event) (number : ℕ) → keeps new.audit ≡ keeps old.audit → new.reach ≡ old.reach → IsLineOf e line → k.Passes old.desk line → new.desk ≡ old.desk
       → ((n : ℕ) → new.verdict ≡ verdict.Stopped n → EndsWithin e old.rates old.audit new.audit old.report new.report) → ((n : ℕ) → new.verdict ≡ verdict.StoppedInOwn n → ⊥)
-      → EachReply e old.rates old.audit (λ text. (told : List ℕ) × HasNext old.report text told) (IsOpen new.verdict) → End (Some Stopped) old new taken taken
-  untaken old new taken e kept is passes same within own missed = ends old new taken kept (inr (inl (e, is)))
+      → EachReply e old.rates old.audit (λ text. (told : List ℕ) × HasNext old.report text told) (IsCutShort new.verdict)
+      → ((told : List ℕ) → old.report ≡ Some told → EachLeft e old.rates told old.audit (λ L. ((new.verdict ≡ verdict.Stopped number) × SeesBetween new.audit L) ⊎ IsCutShort new.verdict))
+      → End (Some Stopped) old new taken taken
+  untaken old new taken e number kept reach is passes same within own missed stops = ends old new taken kept reach (inr (inl (e, is)))
       (λ τ H texts history sees mid told b may.
       let so = if_passed k view m modelled det alone τ (world (place H old.rates) (view old.desk)) mid line old.report told e is (modelled.passes old.desk line passes) b may in
-      missed τ H texts history sees so.d so.event so.did.did.may (told, so.next)) by
+      inl (missed τ H texts history sees so.d so.event so.did.did.may (told, so.next))) tells by
     where
+      called : (L : Ledger) (kept : V) → kept ≡ view old.desk → ((new.verdict ≡ verdict.Stopped number) × SeesBetween new.audit L) ⊎ IsCutShort new.verdict → TellsStop m new.reach new.verdict new.audit (view new.desk) L kept
+      called L kept stays (inl said) = inl (number, said.0, said.1, subst (λ (v : V). m.Alike (view new.desk) v) (ap (λ (d : K). view d) same ∙ sym stays) (alike.same (view new.desk)))
+      called L kept stays (inr cut) = inr (inl cut)
+
+      tells : Told old new
+      tells = λ τ H texts history sees. record {
+        event = λ told L kept stop report_is.
+            let w = stopped_event τ (world (place H old.rates) (view old.desk)) told L kept e is stop in
+            called L kept stop.stays (stops told report_is τ H texts history sees L w.0 w.1);
+        own = λ told L kept stop report_is. absurd (passed_not_own τ (world (place H old.rates) (view old.desk)) told L kept (modelled.passes old.desk line passes) stop);
+      }
+
       by : IsStop new → EndsAt old new
       by (n, inl stop) =
           let w = within n stop in (
@@ -137,9 +224,10 @@ module _ {K T : Type 0} (k : Ghosts K T) {V : Type 0} (view : K → V) (m : Mode
       by (n, inr stop) = absurd (own n stop)
 
   -- nothing of the line was begun
-  pub unbegun : (old new : AuditWorld K) (taken : Option (List ℕ)) → new.audit ≡ old.audit → new.desk ≡ old.desk → IsOpen new.verdict → ((n : ℕ) → new.verdict ≡ verdict.Stopped n → ⊥)
+  pub unbegun : (old new : AuditWorld K) (taken : Option (List ℕ)) → new.audit ≡ old.audit → new.desk ≡ old.desk → new.reach ≡ old.reach → IsOpen new.reach new.verdict → ((n : ℕ) → new.verdict ≡ verdict.Stopped n → ⊥)
       → ((n : ℕ) → new.verdict ≡ verdict.StoppedInOwn n → Consumes old.report new.report [] × IsAtEnd new.report) → End (Some Stopped) old new taken taken
-  unbegun old new taken audit same is_open none own = ends old new taken (ap (λ (a : Audit). keeps a) audit) (inl is_open) (λ τ H texts history sees mid told b may. is_open) by
+  unbegun old new taken audit same reach is_open none own =
+      ends old new taken (ap (λ (a : Audit). keeps a) audit) reach (inl is_open) (λ τ H texts history sees mid told b may. is_open) (open_told old new is_open) by
     where
       by : IsStop new → EndsAt old new
       by (n, inl stop) = absurd (none n stop)
@@ -151,6 +239,10 @@ module _ {K T : Type 0} (k : Ghosts K T) {V : Type 0} (view : K → V) (m : Mode
   abbrev pub OwnLeaves : (ℕ → List ℕ → Reply → Type 0) → Audit → List ℕ → K → Next → Option (List ℕ) → (Tariff → World Place V → List ℕ → Type 0) → Type 0
   OwnLeaves Fails audit left mid first report P = AtEachSeen audit (λ τ H. (new : World Place V) (text : List ℕ) (more : List (List ℕ)) (told : List ℕ) (steps : List StepRecord)
       → MayAnswer m Fails τ (world (place H left) (view mid)) new first text more steps → HasNext report text (flat_map ended more ++ told) → P τ new told)
+
+  -- Q of what a stop may leave of an own line of which this was asked first
+  abbrev pub StopsLeave : Audit → List ℕ → K → Next → Option (List ℕ) → (Ledger → V → Type 0) → Type 0
+  StopsLeave audit left mid first report Q = AtEachSeen audit (λ τ H. (told : List ℕ) → report ≡ Some told → EachOwnLeft m τ (place H left) (view mid) first told Q)
 
   abbrev pub Tells : (ℕ → List ℕ → Reply → Type 0) → Type 0
   Tells Fails = (τ : Tariff) (old new : World Place V) (own : List ℕ) (steps : List StepRecord) → DidOwn (by_model m) (MayStep τ) old new own steps Say → TellsFailures Fails steps (m.texts new.desk)
@@ -190,38 +282,47 @@ module _ {K T : Type 0} (k : Ghosts K T) {V : Type 0} (view : K → V) (m : Mode
       (modelled.begins desk mid own line first is begins goes) b may
 
   -- the report ended within the answer to an own line
-  pub own_stopped : (audit0 audit1 : Audit) (left0 left1 : List ℕ) (desk mid desk1 : K) (report0 report1 : Option (List ℕ)) (v0 v1 : SideVerdict) (taken : Option (List ℕ)) (own : k.Own) (first : Next)
+  pub own_stopped : (audit0 audit1 : Audit) (left0 left1 : List ℕ) (desk mid desk1 : K) (report0 report1 : Option (List ℕ)) (v0 v1 : SideVerdict) (reach0 reach1 : Option Reach) (taken : Option (List ℕ)) (own : k.Own) (first : Next)
       → (Fails : ℕ → List ℕ → Reply → Type 0) → Tells Fails → keeps audit1 ≡ keeps audit0 → k.IsOwn own line → k.Begins desk own first mid → first ≢ Stop
-      → OwnLeaves Fails audit0 left0 mid first report0 (λ τ new told. IsOpen v1)
+      → reach1 ≡ reach0 → OwnLeaves Fails audit0 left0 mid first report0 (λ τ new told. IsCutShort v1)
+      → StopsLeave audit0 left0 mid first report0 (TellsOwnStop m reach1 v1 audit1 (view desk1))
       → ((n : ℕ) → v1 ≡ verdict.Stopped n → ReadsInOwn k audit0 left0 mid first report0 audit1 desk1 report1)
       → ((n : ℕ) → v1 ≡ verdict.StoppedInOwn n → ReadsInOwn k audit0 left0 mid first report0 audit1 desk1 report1)
-      → End (Some Stopped) (audit_world audit0 left0 desk report0 v0) (audit_world audit1 left1 desk1 report1 v1) taken taken
-  own_stopped audit0 audit1 left0 left1 desk mid desk1 report0 report1 v0 v1 taken own first Fails tells kept is begins goes leaves one two =
-      ends (audit_world audit0 left0 desk report0 v0) (audit_world audit1 left1 desk1 report1 v1) taken kept (inr (inr (own, is)))
+      → End (Some Stopped) (audit_world audit0 left0 desk report0 v0 reach0) (audit_world audit1 left1 desk1 report1 v1 reach1) taken taken
+  own_stopped audit0 audit1 left0 left1 desk mid desk1 report0 report1 v0 v1 reach0 reach1 taken own first Fails tells kept is begins goes reach leaves stops one two =
+      ends (audit_world audit0 left0 desk report0 v0 reach0) (audit_world audit1 left1 desk1 report1 v1 reach1) taken kept reach (inr (inr (own, is)))
       (λ τ H texts history sees new told b may.
       let so = own_may Fails tells τ H left0 desk mid own first is begins goes new report0 told b may in
-      leaves τ H texts history sees new so.text so.more told so.steps so.may so.next) by
+      inl (leaves τ H texts history sees new so.text so.more told so.steps so.may so.next)) told by
     where
-      so : ReadsInOwn k audit0 left0 mid first report0 audit1 desk1 report1 → EndsAt (audit_world audit0 left0 desk report0 v0) (audit_world audit1 left1 desk1 report1 v1)
+      told : Told (audit_world audit0 left0 desk report0 v0 reach0) (audit_world audit1 left1 desk1 report1 v1 reach1)
+      told = λ τ H texts history sees. record {
+        event = λ bytes L kept stop report_is. absurd (begun_not_passed τ (world (place H left0) (view desk)) bytes L kept first (view mid) (modelled.begins desk mid own line first is begins goes) stop);
+        own = λ bytes L kept stop report_is. stops τ H texts history sees bytes report_is (view desk) line L kept (modelled.begins desk mid own line first is begins goes) goes stop;
+      }
+
+      so : ReadsInOwn k audit0 left0 mid first report0 audit1 desk1 report1 → EndsAt (audit_world audit0 left0 desk report0 v0 reach0) (audit_world audit1 left1 desk1 report1 v1 reach1)
       so r = (r.0, r.1, r.2, λ τ H texts history sees. own_left τ H left0 desk mid desk1 audit1 own first r.0 is begins (r.3 τ H texts history sees))
 
-      by : IsStop (audit_world audit1 left1 desk1 report1 v1) → EndsAt (audit_world audit0 left0 desk report0 v0) (audit_world audit1 left1 desk1 report1 v1)
+      by : IsStop (audit_world audit1 left1 desk1 report1 v1 reach1) → EndsAt (audit_world audit0 left0 desk report0 v0 reach0) (audit_world audit1 left1 desk1 report1 v1 reach1)
       by (n, inl stop) = so (one n stop)
       by (n, inr stop) = so (two n stop)
 
   -- the extension answered, and the report has its texts
-  pub answered : (audit0 audit1 : Audit) (left0 left1 : List ℕ) (desk mid desk1 : K) (report0 report1 : Option (List ℕ)) (v0 v1 : SideVerdict) (taken : Option (List ℕ)) (own : k.Own) (first : Next)
+  pub answered : (audit0 audit1 : Audit) (left0 left1 : List ℕ) (desk mid desk1 : K) (report0 report1 : Option (List ℕ)) (v0 v1 : SideVerdict) (reach0 reach1 : Option Reach) (taken : Option (List ℕ)) (own : k.Own) (first : Next)
       → (Fails : ℕ → List ℕ → Reply → Type 0) → Tells Fails → keeps audit1 ≡ keeps audit0 → k.IsOwn own line → k.Begins desk own first mid → first ≢ Stop
-      → OwnLeaves Fails audit0 left0 mid first report0 (λ τ new told. IsMet view τ audit1 left1 desk1 new × (report1 ≡ Some told))
+      → reach1 ≡ reach0 → OwnLeaves Fails audit0 left0 mid first report0 (λ τ new told. IsMet view τ audit1 left1 desk1 new × (report1 ≡ Some told))
+      → StopsLeave audit0 left0 mid first report0 (λ L kept. ⊥)
       → AtEachSeen audit0 (λ τ H. AskedSo k τ (world (place H left0) mid) audit1 left1 desk1 first Say)
-      → Consumes report0 report1 (flat_map ended (k.texts desk1)) → AllByRecursion IsText (k.texts desk1) → End None (audit_world audit0 left0 desk report0 v0) (audit_world audit1 left1 desk1 report1 v1) taken taken
-  answered audit0 audit1 left0 left1 desk mid desk1 report0 report1 v0 v1 taken own first Fails tells kept is begins goes leaves asked read each = LineEnd.did (record {
+      → Consumes report0 report1 (flat_map ended (k.texts desk1)) → AllByRecursion IsText (k.texts desk1) → End None (audit_world audit0 left0 desk report0 v0 reach0) (audit_world audit1 left1 desk1 report1 v1 reach1) taken taken
+  answered audit0 audit1 left0 left1 desk mid desk1 report0 report1 v0 v1 reach0 reach1 taken own first Fails tells kept is begins goes reach leaves stops asked read each = LineEnd.did (record {
     trace_step = Own line own (k.texts desk1);
     line_is = refl;
     is = (is, each);
     did = record {
       kept = kept;
-      took = (audit_world audit1 left1 desk1 report1 v1, read, refl);
+      reach = reach;
+      took = (audit_world audit1 left1 desk1 report1 v1 reach1, read, refl);
       may = λ τ H texts history sees.
           let so = asked τ H texts history sees in (
             so.steps,
@@ -229,9 +330,15 @@ module _ {K T : Type 0} (k : Ghosts K T) {V : Type 0} (view : K → V) (m : Mode
             record { did = record { first = first; desk = mid; begins = begins; asks = so.asks }; answer = ap (λ (x : K). k.texts x) (sym so.seen.desk) },
             record { history = so.seen.history; sees = so.seen.sees; left = so.seen.left; desk = so.seen.desk },
           );
-      only = λ τ H texts history sees new told b may.
-          let so = own_may Fails tells τ H left0 desk mid own first is begins goes new report0 told b may in
-          leaves τ H texts history sees new so.text so.more told so.steps so.may so.next;
+      only = λ τ H texts history sees. (
+        record {
+          event = λ bytes L kept stop report_is. begun_not_passed τ (world (place H left0) (view desk)) bytes L kept first (view mid) (modelled.begins desk mid own line first is begins goes) stop;
+          own = λ bytes L kept stop report_is. stops τ H texts history sees bytes report_is (view desk) line L kept (modelled.begins desk mid own line first is begins goes) goes stop;
+        },
+        λ new told b may.
+            let so = own_may Fails tells τ H left0 desk mid own first is begins goes new report0 told b may in
+            leaves τ H texts history sees new so.text so.more told so.steps so.may so.next,
+      );
     };
     reported = (tt, Appends-nil taken);
   })
@@ -243,19 +350,21 @@ module _ {K T : Type 0} (k : Ghosts K T) {V : Type 0} (view : K → V) (m : Mode
       subst (λ (o : SideStatus). Reported (Some o) (e ≢ ev.End) (e ≡ ev.End) ⊥ [] taken taken) (sym end.0) (end.1, Appends-nil taken)
 
   -- an event got an answer that the auditor took
-  pub heard : {A : Type 0} (IsOf : A → Turn → Type 0) (told : A) (audit0 audit1 : Audit) (left0 left1 : List ℕ) (desk desk1 : K) (report0 report1 : Option (List ℕ)) (v0 v1 : SideVerdict) (taken : Option (List ℕ)) (e : Event) (answer : List ℕ) (outcome : Option SideStatus)
-      → IsOneLine answer
+  pub heard : {A : Type 0} (IsOf : A → Turn → Type 0) (told : A) (audit0 audit1 : Audit) (left0 left1 : List ℕ) (desk desk1 : K) (report0 report1 : Option (List ℕ)) (v0 v1 : SideVerdict) (reach0 reach1 : Option Reach) (taken : Option (List ℕ)) (e : Event) (answer : List ℕ) (outcome : Option SideStatus)
+      → IsOneLine answer → reach1 ≡ reach0
+      → ((bytes : List ℕ) → report0 ≡ Some bytes → EachLeft e left0 bytes audit0 (λ L. ⊥))
       → keeps audit1 ≡ keeps audit0 → IsLineOf e line → k.Passes desk line → ((turn : Turn) → IsOf told turn → k.Sees desk e turn desk1)
       → TakesLine IsOf told e answer audit0 audit1 left0 left1 → Consumes report0 report1 (ended answer)
       → IfNone outcome (e ≢ ev.End) → IfSome outcome (λ s. (s ≡ Run status.Done) × (e ≡ ev.End))
-      → End outcome (audit_world audit0 left0 desk report0 v0) (audit_world audit1 left1 desk1 report1 v1) taken taken
-  heard IsOf told audit0 audit1 left0 left1 desk desk1 report0 report1 v0 v1 taken e answer outcome answer_one kept is passes sees_it takes read goes end = LineEnd.did (record {
+      → End outcome (audit_world audit0 left0 desk report0 v0 reach0) (audit_world audit1 left1 desk1 report1 v1 reach1) taken taken
+  heard IsOf told audit0 audit1 left0 left1 desk desk1 report0 report1 v0 v1 reach0 reach1 taken e answer outcome answer_one reach unstopped kept is passes sees_it takes read goes end = LineEnd.did (record {
     trace_step = Heard line e answer;
     line_is = refl;
     is = is;
     did = record {
       kept = kept;
-      took = (audit_world audit1 left1 desk1 report1 v1, read, refl);
+      reach = reach;
+      took = (audit_world audit1 left1 desk1 report1 v1 reach1, read, refl);
       may = λ τ H texts history sees.
           let w = takes τ H texts history sees in
           let d = w.0 in
@@ -274,11 +383,19 @@ module _ {K T : Type 0} (k : Ghosts K T) {V : Type 0} (view : K → V) (m : Mode
             },
             record { history = moves d.event d.text d.reply history t.may.unforged t.may.moves; sees = t.sees; left = refl; desk = refl },
           );
-      only = λ τ H texts history sees mid rest b may.
-          let w = takes τ H texts history sees in
-          let so = if_passed k view m modelled det alone τ (world (place H left0) (view desk)) mid line report0 rest e is (modelled.passes desk line passes) b may in
-          met_event m det view τ H e line answer left0 left1 audit1 desk desk1 mid report0 report1 rest so.d w.0 history so.event so.did so.next answer_one read w.1
-          (modelled.sees desk desk1 e (turn_at τ H w.0) (sees_it (turn_at τ H w.0) w.2));
+      only = λ τ H texts history sees. (
+        record {
+          event = λ bytes L kept stop report_is.
+              let w = stopped_event τ (world (place H left0) (view desk)) bytes L kept e is stop in
+              unstopped bytes report_is τ H texts history sees L w.0 w.1;
+          own = λ bytes L kept stop report_is. passed_not_own τ (world (place H left0) (view desk)) bytes L kept (modelled.passes desk line passes) stop;
+        },
+        λ mid rest b may.
+            let w = takes τ H texts history sees in
+            let so = if_passed k view m modelled det alone τ (world (place H left0) (view desk)) mid line report0 rest e is (modelled.passes desk line passes) b may in
+            met_event m det view τ H e line answer left0 left1 audit1 desk desk1 mid report0 report1 rest so.d w.0 history so.event so.did so.next answer_one read w.1
+            (modelled.sees desk desk1 e (turn_at τ H w.0) (sees_it (turn_at τ H w.0) w.2)),
+      );
     };
     reported = ended_reported e outcome taken goes end;
   })

@@ -37,7 +37,7 @@ pub not_one : (a x : List ℕ) → IsOneLine (ended a ++ x) → ⊥
 not_one [] x one = one.0 refl
 not_one (c ∷ a) x one = not_one a x one.1
 
-one_front : (a b : List ℕ) → IsOneLine (a ++ b) → IsOneLine a
+pub one_front : (a b : List ℕ) → IsOneLine (a ++ b) → IsOneLine a
 one_front [] b one = tt
 one_front (c ∷ a) b one = (one.0, one_front a b one.1)
 

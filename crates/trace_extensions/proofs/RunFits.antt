@@ -16,7 +16,7 @@ use Rattle.line_runs.specs.Trace.{Grammar, IsGrammar, Lines, FitsGrammar, Reads,
 use Rattle.line_runs.specs.Turns as turns
 use Rattle.line_runs.specs.declared.status.Status.{Status}
 use Rattle.line_runs.specs.declared.status.Status.TheVariants as status
-use Rattle.line_runs.specs.declared.{status.SideStatus.TheVariants.Run, status.SideStatus.TheVariants.Stopped}
+use Rattle.line_runs.specs.declared.{status.SideStatus.SideStatus, status.SideStatus.TheVariants.Run, status.SideStatus.TheVariants.Stopped}
 use Rattle.line_runs.proofs.EndLaws.{exact_end, one_ending_of, all_passed}
 use Rattle.line_extensions.specs.DeskLaws.{side_fits}
 use Rattle.line_extensions.specs.Desks.{world, side_grammar, side_lines, Does}
@@ -28,10 +28,10 @@ use Rattle.trace_runs.specs.Between.{SeesBetween}
 use Rattle.trace_runs.specs.Verdicts.{status_of}
 use Rattle.trace_runs.specs.declared.verdict.Ending.{Ending}
 use Rattle.trace_runs.specs.declared.verdict.Ending.TheVariants as ends
-use Rattle.trace_extensions.specs.declared.{papers.SideVerdict.SideVerdict, papers.SideVerdict.TheVariants.Lawful}
+use Rattle.trace_extensions.specs.declared.{papers.Reach.Reach, papers.SideVerdict.SideVerdict, papers.SideVerdict.TheVariants.Lawful}
 use Rattle.trace_extensions.specs.AuditLaws.{audit_fits}
 use Rattle.trace_extensions.specs.Exact.{IsMetIn}
-use Rattle.trace_extensions.specs.Fits.{IsOpen, HasTexts, MayDoAll, FitsSo, IsLeftSo, FitsIfLawful, LawfulIfFits}
+use Rattle.trace_extensions.specs.Fits.{IsCutShort, IsOpen, HasTexts, MayDoAll, FitsSo, IsLeftSo, FitsIfLawful, LawfulIfFits}
 use Rattle.trace_extensions.specs.Models.{Model, by_model, IsModelOf}
 use Rattle.trace_extensions.specs.Places.{place, MayStep}
 use Rattle.trace_extensions.specs.Steps.{AuditWorld, AuditStep, Passed, Heard, Begun, Ended, audit_line, audit_grammar, audit_lines, AuditIsOf, IsKnown, AuditEnds}
@@ -45,7 +45,7 @@ use Rattle.trace_extensions.proofs.Translated.{NoneEnds, going, took_split}
 use Rattle.trace_extensions.proofs.Walked.{IsSound, walk, walk_past, EndedAt}
 
 -- a run that came to the end of its script ends by it
-by_script : (s : Status) → IsWhole s → IsByScript (Run s)
+pub by_script : (s : Status) → IsWhole s → IsByScript (Run s)
 by_script status.Done whole = tt
 by_script (status.Script n) whole = tt
 by_script status.TooLong whole = tt
@@ -112,7 +112,7 @@ same_passed g is status.WriteFault whole script d e = absurd whole
 same_passed g is status.Memory whole script d e = absurd whole
 
 -- it is done, or not
-is_done : (s : Status) → (s ≡ status.Done) ⊎ (s ≡ status.Done → ⊥)
+pub is_done : (s : Status) → (s ≡ status.Done) ⊎ (s ≡ status.Done → ⊥)
 is_done status.Done = inl refl
 is_done (status.Script n) = inr (λ is. cc (is))
 is_done status.TooLong = inr (λ is. cc (is))
@@ -124,24 +124,24 @@ is_done status.Memory = inr (λ is. cc (is))
 module _ {K T : Type 0} (k : Ghosts K T) {V : Type 0} (view : K → V) (m : Model V) (modelled : IsModelOf k view m) (alone : (own : k.Own) (line : List ℕ) → k.IsOwn own line → IsAlone line) where
   -- == the lines of both are the same ==
 
-  abbrev gM : Grammar
+  abbrev pub gM : Grammar
   gM = side_grammar (by_model m)
 
-  fits_model : FitsGrammar (side_lines (by_model m))
+  pub fits_model : FitsGrammar (side_lines (by_model m))
   fits_model = side_fits (by_model m) (λ own line is. let w = (modelled.own line).0 is.1 in alone w.0 line w.1)
 
   as_passed : (line : List ℕ) → IsPassed (audit_grammar k) line → IsPassed gM line
   as_passed line (short, inl passing) = (short, inl passing)
   as_passed line (short, inr own) = (short, inr (line, (refl, (modelled.own line).1 own)))
 
-  all_as : (lines : List (List ℕ)) → AllByRecursion (IsPassed (audit_grammar k)) lines → AllByRecursion (IsPassed gM) lines
+  pub all_as : (lines : List (List ℕ)) → AllByRecursion (IsPassed (audit_grammar k)) lines → AllByRecursion (IsPassed gM) lines
   all_as [] each = tt
   all_as (line ∷ lines) each = (as_passed line each.0, all_as lines each.1)
 
   as_bad : (line : List ℕ) → (audit_grammar k).IsBad line → gM.IsBad line
   as_bad line bad = (bad.0, λ own is. let w = (modelled.own line).0 is.1 in bad.1 w.0 w.1)
 
-  ends_at : (s : Status) (n : ℕ) (rest : List (List ℕ)) → EndsAt (audit_grammar k) s n rest → EndsAt gM s n rest
+  pub ends_at : (s : Status) (n : ℕ) (rest : List (List ℕ)) → EndsAt (audit_grammar k) s n rest → EndsAt gM s n rest
   ends_at status.Done n [] at = at
   ends_at status.Done n (line ∷ rest) at = at
   ends_at (status.Script x) n [] at = at
@@ -153,7 +153,7 @@ module _ {K T : Type 0} (k : Ghosts K T) {V : Type 0} (view : K → V) (m : Mode
   ends_at status.WriteFault n rest at = at
   ends_at status.Memory n rest at = at
 
-  abbrev ends_as : (s : Status) (script : List ℕ) → EndsAs (audit_grammar k) s script → EndsAs gM s script
+  abbrev pub ends_as : (s : Status) (script : List ℕ) → EndsAs (audit_grammar k) s script → EndsAs gM s script
   ends_as s script e = record { passed = e.passed; rest = e.rest; are = e.are; each = all_as e.passed e.each; last = ends_at s (length e.passed + 1) e.rest e.last }
 
   -- a line of an event or an own one is not bad
@@ -164,7 +164,7 @@ module _ {K T : Type 0} (k : Ghosts K T) {V : Type 0} (view : K → V) (m : Mode
   -- == the run that fits ==
 
   -- its steps
-  goes_whole : (b : SideStep (List ℕ)) → SideGoesOn b → IsBroken b → ⊥
+  pub goes_whole : (b : SideStep (List ℕ)) → SideGoesOn b → IsBroken b → ⊥
   goes_whole (Plain d) goes broken = broken
   goes_whole (Own line own steps texts) goes broken = broken
   goes_whole (Broken line own steps) goes broken = goes
@@ -175,20 +175,20 @@ module _ {K T : Type 0} (k : Ghosts K T) {V : Type 0} (view : K → V) (m : Mode
   end_whole (Broken line own steps) end broken = end
 
   sound_trace : (ys zs : List (SideStep (List ℕ))) → AllByRecursion (Reads (side_lines (by_model m))) ys → AllByRecursion (side_lines (by_model m)).GoesOn ys → AllByRecursion HasTexts (ys ++ zs)
-      → (AllByRecursion HasTexts zs → AllByRecursion (IsSound k m) zs) → AllByRecursion (IsSound k m) (ys ++ zs)
+      → (AllByRecursion HasTexts zs → AllByRecursion (IsSound k view m) zs) → AllByRecursion (IsSound k view m) (ys ++ zs)
   sound_trace [] zs each goes texts rest = rest texts
   sound_trace (b ∷ ys) zs each goes texts rest = (record { is = each.0.is; whole = goes_whole b goes.0; texts = texts.0 }, sound_trace ys zs each.1 goes.1 texts.1 rest)
 
-  one_sound : (b : SideStep (List ℕ)) (zs : List (SideStep (List ℕ))) → zs ≡ b ∷ [] → Reads (side_lines (by_model m)) b → (IsBroken b → ⊥) → AllByRecursion HasTexts zs → AllByRecursion (IsSound k m) zs
+  one_sound : (b : SideStep (List ℕ)) (zs : List (SideStep (List ℕ))) → zs ≡ b ∷ [] → Reads (side_lines (by_model m)) b → (IsBroken b → ⊥) → AllByRecursion HasTexts zs → AllByRecursion (IsSound k view m) zs
   one_sound b zs only reads whole texts =
-      subst (λ (l : List (SideStep (List ℕ))). AllByRecursion (IsSound k m) l) (sym only)
+      subst (λ (l : List (SideStep (List ℕ))). AllByRecursion (IsSound k view m) l) (sym only)
       (record { is = reads.is; whole = whole; texts = (subst (λ (l : List (SideStep (List ℕ))). AllByRecursion HasTexts l) only texts).0 }, tt)
 
-  no_sound : (zs : List (SideStep (List ℕ))) → zs ≡ [] → AllByRecursion (IsSound k m) zs
-  no_sound zs none = subst (λ (l : List (SideStep (List ℕ))). AllByRecursion (IsSound k m) l) (sym none) tt
+  no_sound : (zs : List (SideStep (List ℕ))) → zs ≡ [] → AllByRecursion (IsSound k view m) zs
+  no_sound zs none = subst (λ (l : List (SideStep (List ℕ))). AllByRecursion (IsSound k view m) l) (sym none) tt
 
   last_sound : (s : Status) → IsWhole s → (number : ℕ) (bytes : List ℕ) (end : Type 0) (text : List ℕ) (zs : List (SideStep (List ℕ))) → EndsIn (side_lines (by_model m)) (Run s) number bytes end text zs → AllByRecursion HasTexts zs
-      → AllByRecursion (IsSound k m) zs
+      → AllByRecursion (IsSound k view m) zs
   last_sound status.Done whole number bytes end text zs (did, is_end, told) texts = one_sound did.last zs did.only did.reads (end_whole did.last is_end) texts
   last_sound (status.Script n) whole number bytes end text zs (few, inl (is, none, told, bad)) texts = no_sound zs none
   last_sound (status.Script n) whole number bytes end text zs (few, inr (is, out)) texts = one_sound out.last zs out.only out.reads (goes_whole out.last out.goes_on) texts
@@ -226,7 +226,7 @@ module _ {K T : Type 0} (k : Ghosts K T) {V : Type 0} (view : K → V) (m : Mode
     abbrev ys : List (SideStep (List ℕ))
     ys = f.run.trace ++ f.run.done
 
-    sound : AllByRecursion (IsSound k m) ys
+    sound : AllByRecursion (IsSound k view m) ys
     sound = sound_trace f.run.trace f.run.done f.run.each f.run.go_on f.run.did.texts (last_sound s whole _ _ _ f.run.text f.run.done f.run.ends)
 
     report_is : report ≡ report_of (side_lines (by_model m)) ys ++ []
@@ -266,7 +266,7 @@ module _ {K T : Type 0} (k : Ghosts K T) {V : Type 0} (view : K → V) (m : Mode
         abbrev xs : List (AuditStep k.Own K)
         xs = r.trace ++ r.done
 
-        none_ends : NoneEnds k xs
+        pub none_ends : NoneEnds k xs
         none_ends = both_go k r.trace r.done (going k r.trace r.go_on) (last_goes k s whole _ _ _ _ r.done r.ends)
 
         -- as many lines
@@ -287,7 +287,7 @@ module _ {K T : Type 0} (k : Ghosts K T) {V : Type 0} (view : K → V) (m : Mode
 
         nothing_left : (w1.report ≡ Some []) × IsLeftSo τ w1.audit (view w1.desk) f.run.did.behind
         nothing_left =
-            let met = walk k m τ (IsMetIn view τ r.did.behind) xs ys (world (place H w0.rates) (view w0.desk)) f.run.did.behind w0.report [] lines none_ends sound does
+            let met = walk k view m τ (IsMetIn view τ r.did.behind) xs ys (world (place H w0.rates) (view w0.desk)) f.run.did.behind w0.report [] lines none_ends sound does
             (same_report ∙ ap (λ (l : List ℕ). Some l) report_is) (r.did.did.only τ H texts history sees) in (
               ap (λ (w : AuditWorld K). w.report) r.did.leaves ∙ met.1,
               subst (λ (w : AuditWorld K). IsLeftSo τ w.audit (view w.desk) f.run.did.behind) (sym r.did.leaves) (record { history = met.0.history; sees = met.0.sees; kept = met.0.kept }),
@@ -302,38 +302,38 @@ module _ {K T : Type 0} (k : Ghosts K T) {V : Type 0} (view : K → V) (m : Mode
         with_last = subst (λ (d : List (AuditStep k.Own K)). DidAudit k view m w0 r.did.behind (r.trace ++ d)) r.ends.0.only r.did.did
 
         -- what it left there
-        left_there : (d : AuditStep k.Own K) → AuditEnds d → DidAudit k view m w0 r.did.behind (r.trace ++ d ∷ []) → EndedAt k m τ (IsMetIn view τ r.did.behind) d → IsOpen w1.verdict
+        left_there : (d : AuditStep k.Own K) → AuditEnds d → DidAudit k view m w0 r.did.behind (r.trace ++ d ∷ []) → EndedAt k view m τ (IsMetIn view τ r.did.behind) d → IsOpen w1.reach w1.verdict
         left_there (Passed line) ends did is_open = absurd ends
         left_there (Heard line e answer) ends did is_open = absurd ends
         left_there (audit.Own line own texts) ends did is_open = absurd ends
         left_there (Begun line told at) ends did is_open =
             let split = took_split k w0 r.did.behind r.trace (Begun line told at ∷ []) did.took in
-            subst (λ (w : AuditWorld K). IsOpen w.verdict) (sym (r.did.leaves ∙ split.2.2)) is_open
+            subst (λ (w : AuditWorld K). IsOpen w.reach w.verdict) (sym (r.did.leaves ∙ split.2.2)) is_open
         left_there (Ended line at) ends did is_open =
             let split = took_split k w0 r.did.behind r.trace (Ended line at ∷ []) did.took in
-            subst (λ (w : AuditWorld K). IsOpen w.verdict) (sym (r.did.leaves ∙ split.2)) is_open
+            subst (λ (w : AuditWorld K). IsOpen w.reach w.verdict) (sym (r.did.leaves ∙ split.2)) is_open
 
-        pub past : (more : List (List ℕ)) → map audit_line r.trace ++ (audit_line last ∷ more) ≡ map side_line ys → IsOpen w1.verdict
+        pub past : (more : List (List ℕ)) → map audit_line r.trace ++ (audit_line last ∷ more) ≡ map side_line ys → IsOpen w1.reach w1.verdict
         past more lines = left_there last r.ends.1 with_last
-            (walk_past k m τ (IsMetIn view τ r.did.behind) r.trace last more ys (world (place H w0.rates) (view w0.desk)) f.run.did.behind w0.report [] lines (going k r.trace r.go_on) r.ends.1 sound does
+            (walk_past k view m τ (IsMetIn view τ r.did.behind) r.trace last more ys (world (place H w0.rates) (view w0.desk)) f.run.did.behind w0.report [] lines (going k r.trace r.go_on) r.ends.1 sound does
             (same_report ∙ ap (λ (l : List ℕ). Some l) report_is) (with_last.only τ H texts history sees))
 
         -- the verdict leaves it is_open, or the line is known
-        open_or_known : (d : AuditStep k.Own K) → AuditEnds d → AuditIsOf k.IsOwn d → EndedAt k m τ (IsMetIn view τ r.did.behind) d ⊎ IsKnown k.IsOwn (audit_line d)
+        open_or_known : (d : AuditStep k.Own K) → AuditEnds d → AuditIsOf k.IsOwn d → EndedAt k view m τ (IsMetIn view τ r.did.behind) d ⊎ IsKnown k.IsOwn (audit_line d)
         open_or_known (Passed line) ends is = absurd ends
         open_or_known (Heard line e answer) ends is = absurd ends
         open_or_known (audit.Own line own texts) ends is = absurd ends
         open_or_known (Begun line told at) ends is = is
         open_or_known (Ended line at) ends is = is.1
 
-        pub at_last : (IsKnown k.IsOwn (audit_line last) → IsOpen w1.verdict) → IsOpen w1.verdict
+        pub at_last : (IsKnown k.IsOwn (audit_line last) → IsOpen w1.reach w1.verdict) → IsOpen w1.reach w1.verdict
         at_last known = elim (open_or_known last r.ends.1 r.ends.0.reads.is) [
           | inl is_open ↦ left_there last r.ends.1 with_last is_open
           | inr is ↦ known is
         ]
 
         -- the run that fits has that line
-        goes_past : IsKnown k.IsOwn (audit_line last) → IsOpen w1.verdict
+        goes_past : IsKnown k.IsOwn (audit_line last) → IsOpen w1.reach w1.verdict
         goes_past is_known =
             let w = last_follows (audit_lines k) (turns.Ended (DidAudit k view m) AuditLeaves Stopped w0 w1) script t0 t1 Stopped left r r.ends.0 in
             let a : List (List ℕ) = map audit_line r.trace in
@@ -350,7 +350,7 @@ module _ {K T : Type 0} (k : Ghosts K T) {V : Type 0} (view : K → V) (m : Mode
             by_reach a (inl fewer) = omega (arith, fewer, at_least)
             by_reach a (inr done) = let w = counts.1 done.0 in omega (arith, w, done.1)
 
-        pub stopped_open : IsOpen w1.verdict
+        pub stopped_open : IsOpen w1.reach w1.verdict
         stopped_open = elim (open_or_known last r.ends.1 r.ends.0.reads.is) [
           | inl is_open ↦ left_there last r.ends.1 with_last is_open
           | inr is ↦ goes_past is
@@ -380,14 +380,14 @@ module _ {K T : Type 0} (k : Ghosts K T) {V : Type 0} (view : K → V) (m : Mode
 
   -- it ended at a line
   pub stopped_audit : (τ : Tariff) (H : Ledger) (script report rates : List ℕ) (s : Status) (whole : IsWhole s) (v : V) (w0 w1 : AuditWorld K) (left t0 t1 : Option (List ℕ)) → FitsSo m τ H script report rates v s
-      → Beginning τ H script report rates v w0 → Replayed (audit_lines k) Stopped (turns.Ended (DidAudit k view m) AuditLeaves Stopped w0 w1) (Some script) left t0 t1 → IsOpen w1.verdict
+      → Beginning τ H script report rates v w0 → Replayed (audit_lines k) Stopped (turns.Ended (DidAudit k view m) AuditLeaves Stopped w0 w1) (Some script) left t0 t1 → IsOpen w1.reach w1.verdict
   stopped_audit τ H script report rates s whole v w0 w1 None t0 t1 f b r = absurd r.consumed
   stopped_audit τ H script report rates s whole v w0 w1 (Some left) t0 t1 f b r =
       stopped_open τ H script report rates s whole v f b.texts b.history left t0 t1 w0 w1 b.sees b.rates_are b.view_is b.report_is r
 
   -- == by what is known of the sources ==
 
-  if_known : (a b : Option (List ℕ)) (P : List ℕ → List ℕ → Type 0) → ((x y : List ℕ) → a ≡ Some x → b ≡ Some y → P x y) → IfSome a (λ x. IfSome b (λ y. P x y))
+  pub if_known : (a b : Option (List ℕ)) (P : List ℕ → List ℕ → Type 0) → ((x y : List ℕ) → a ≡ Some x → b ≡ Some y → P x y) → IfSome a (λ x. IfSome b (λ y. P x y))
   if_known None b P each = tt
   if_known (Some x) None P each = tt
   if_known (Some x) (Some y) P each = each x y refl refl
@@ -403,26 +403,34 @@ module _ {K T : Type 0} (k : Ghosts K T) {V : Type 0} (view : K → V) (m : Mode
   same_ending ends.TooLong (ends.Script n) is = absurd (cc (is))
   same_ending ends.TooLong ends.TooLong is = refl
 
-  pub complete_open : (script report : Option (List ℕ)) (rates : List ℕ) (v w : V) (old audit : Audit) (verdict : SideVerdict) → IsOpen verdict → LawfulIfFits m script report rates v w old audit verdict
-  complete_open script report rates v w old audit verdict is_open = if_known script report _ (λ text told script_is report_is end τ H texts history between fits. inr is_open)
+  -- the reach is the one that was given
+  pub reach_kept : {outcome : SideStatus} {w0 w1 : AuditWorld K} {d : List (AuditStep k.Own K)} → turns.Ended (DidAudit k view m) AuditLeaves outcome w0 w1 d → w1.reach ≡ w0.reach
+  reach_kept ended = ap (λ (w : AuditWorld K). w.reach) ended.leaves ∙ ended.did.reach
+
+  as_said : (w0 w1 : AuditWorld K) (verdict : SideVerdict) → w1.reach ≡ w0.reach → (verdict ≡ w1.verdict) ⊎ IsCutShort verdict → IsOpen w1.reach w1.verdict → IsOpen w0.reach verdict
+  as_said w0 w1 verdict reach (inl same) is_open = subst (λ (v : SideVerdict). IsOpen w0.reach v) (sym same) (subst (λ (r : Option Reach). IsOpen r w1.verdict) reach is_open)
+  as_said w0 w1 verdict reach (inr cut) is_open = inl cut
+
+  pub complete_open : (script report : Option (List ℕ)) (rates : List ℕ) (v w : V) (old audit : Audit) (verdict : SideVerdict) (reach : Option Reach) → IsCutShort verdict → LawfulIfFits m script report rates v w old audit verdict reach
+  complete_open script report rates v w old audit verdict reach cut = if_known script report _ (λ text told script_is report_is end τ H texts history between fits. inr (inl cut))
 
   module _ (left0 left1 t0 t1 : Option (List ℕ)) (w0 w1 : AuditWorld K) (old : Audit) (rates : List ℕ) (same : w0.rates ≡ rates) (begun : (H : Ledger) → SeesBetween old H → Sees w0.audit (Begin ∷ H)) (verdict : SideVerdict) where
     beginning : (τ : Tariff) (H : Ledger) (script report : List ℕ) → IsOfTexts τ → History τ editions H → SeesBetween old H → w0.report ≡ Some report → Beginning τ (Begin ∷ H) script report rates (view w0.desk) w0
     beginning τ H script report texts history between is = record { texts = texts; history = begins history; sees = begun H between; rates_are = same; view_is = refl; report_is = is }
 
-    pub complete_whole : (x : Ending) → Replayed (audit_lines k) (Run (status_of x)) (turns.Ended (DidAudit k view m) AuditLeaves (Run (status_of x)) w0 w1) left0 left1 t0 t1 → (w1.report ≡ Some [] → (verdict ≡ Lawful x) ⊎ IsOpen verdict)
-        → LawfulIfFits m left0 w0.report rates (view w0.desk) (view w1.desk) old w1.audit verdict
+    pub complete_whole : (x : Ending) → Replayed (audit_lines k) (Run (status_of x)) (turns.Ended (DidAudit k view m) AuditLeaves (Run (status_of x)) w0 w1) left0 left1 t0 t1 → (w1.report ≡ Some [] → (verdict ≡ Lawful x) ⊎ IsCutShort verdict)
+        → LawfulIfFits m left0 w0.report rates (view w0.desk) (view w1.desk) old w1.audit verdict w0.reach
     complete_whole x r over = if_known left0 w0.report _ (λ script report script_is report_is end τ H texts history between fits.
         let so = whole_audit τ (Begin ∷ H) script report rates (status_of end) (whole_end k end) (view w0.desk) w0 w1 left1 t0 t1 fits (beginning τ H script report texts history between report_is) (status_of x) (whole_end k x)
         (subst (λ (o : Option (List ℕ)). Replayed (audit_lines k) (Run (status_of x)) (turns.Ended (DidAudit k view m) AuditLeaves (Run (status_of x)) w0 w1) o left1 t0 t1) script_is r) in
         elim (over so.1) [
           | inl is ↦ inl (is ∙ ap (λ (y : Ending). Lawful y) (same_ending x end so.0), so.2)
-          | inr is_open ↦ inr is_open
+          | inr cut ↦ inr (inl cut)
         ])
 
-    pub complete_stopped : Replayed (audit_lines k) Stopped (turns.Ended (DidAudit k view m) AuditLeaves Stopped w0 w1) left0 left1 t0 t1 → (IsOpen w1.verdict → IsOpen verdict) → LawfulIfFits m left0 w0.report rates (view w0.desk) (view w1.desk) old w1.audit verdict
-    complete_stopped r is_open = if_known left0 w0.report _ (λ script report script_is report_is end τ H texts history between fits.
-        inr (is_open (stopped_audit τ (Begin ∷ H) script report rates (status_of end) (whole_end k end) (view w0.desk) w0 w1 left1 t0 t1 fits (beginning τ H script report texts history between report_is)
+    pub complete_stopped : Replayed (audit_lines k) Stopped (turns.Ended (DidAudit k view m) AuditLeaves Stopped w0 w1) left0 left1 t0 t1 → (verdict ≡ w1.verdict) ⊎ IsCutShort verdict → LawfulIfFits m left0 w0.report rates (view w0.desk) (view w1.desk) old w1.audit verdict w0.reach
+    complete_stopped r only = if_known left0 w0.report _ (λ script report script_is report_is end τ H texts history between fits.
+        inr (as_said w0 w1 verdict (reach_kept r.did) only (stopped_audit τ (Begin ∷ H) script report rates (status_of end) (whole_end k end) (view w0.desk) w0 w1 left1 t0 t1 fits (beginning τ H script report texts history between report_is)
         (subst (λ (o : Option (List ℕ)). Replayed (audit_lines k) Stopped (turns.Ended (DidAudit k view m) AuditLeaves Stopped w0 w1) o left1 t0 t1) script_is r))))
 
   -- a run that is lawful fits

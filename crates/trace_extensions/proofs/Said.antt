@@ -1,7 +1,7 @@
 -- Claims, departments and manifests are the same for the next line, whatever was said last.
-use Rattle.std.proofs.Common.{◌≡◌, ◌⊎◌, inl, inr, ℕ, ◌+◌, ◌-◌, List, Option, Some, None, Bool, true, false, ◌==◌, refl, sym, subst}
+use Rattle.std.proofs.Common.{◌≡◌, inl, inr, ℕ, ◌+◌, ◌-◌, List, Option, Some, None, Bool, true, false, ◌==◌, refl, sym, subst}
 use Rattle.std.specs.Prelude.{nat_lt}
-use Rattle.node_acts.specs.RowList.{is_worn, put}
+use Rattle.node_acts.specs.RowList.{is_worn}
 use Rattle.line_extensions.specs.declared.{extension.Next.Next, extension.Next.TheVariants.Say}
 use Rattle.spoil_claims.specs.Claims.{Claims, kept as kept_claim, last_claim, credits}
 use Rattle.spoil_claims.specs.Moves as claim
@@ -9,13 +9,12 @@ use Rattle.spoil_claims.specs.declared.{claim.ClaimLine.ClaimLine, claim.ClaimLi
 use Rattle.spoil_claims.specs.declared.answer.Answer.TheVariants as claims
 use Rattle.spoil_claims.proofs.Answering.{either_by as claim_either}
 use Rattle.host_departments.specs.Moves as department
-use Rattle.host_departments.specs.Rows.{Rows, quota, spent, first_cell, HasJobs, Has, AnotherHas, IsAssigned}
+use Rattle.host_departments.specs.Rows.{Rows, quota, spent}
 use Rattle.host_departments.specs.declared.{row.DepartmentLine.DepartmentLine, row.DepartmentLine.TheVariants.Quota, row.DepartmentLine.TheVariants.Assign, row.DepartmentLine.TheVariants.Spent, row.DepartmentLine.TheVariants.Print, row.DepartmentRow.DepartmentRow, answer.Answer.Answer as DepartmentAnswer}
 use Rattle.host_departments.specs.declared.row.DepartmentRow.TheVariants as row
 use Rattle.host_departments.specs.declared.answer.Answer.TheVariants as departments
 use Rattle.mail_manifest.specs.Listings.{Listing}
 use Rattle.mail_manifest.specs.Moves as manifest
-use Rattle.mail_manifest.specs.declared.{opening.ManifestLine.ManifestLine}
 use Rattle.trace_extensions.specs.ClaimsModel.{Standing, standing, ByWorn, standing_keeper, claims_model}
 use Rattle.trace_extensions.specs.DepartmentsModel.{Kept, kept, tried, kept_keeper, departments_model}
 use Rattle.trace_extensions.specs.ManifestModel.{ManifestView, view_listing, view_said, manifest_model}

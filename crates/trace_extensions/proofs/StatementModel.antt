@@ -18,9 +18,11 @@ use Rattle.centre_statement.specs.StatementsDesk.{statements_desk}
 use Rattle.centre_statement.specs.Texts.{said_texts, closed_texts}
 use Rattle.centre_statement.specs.declared.{lines.OwnLine.OwnLine, lines.OwnLine.TheVariants.Open, lines.OwnLine.TheVariants.Close, answer.Answer.Answer}
 use Rattle.centre_statement.specs.declared.answer.Answer.TheVariants as answers
-use Rattle.trace_extensions.specs.Models.{by_model, IsModelOf, IsDetermined, IsSure, IsToldOf, AreToldOf, TellsFailures}
+use Rattle.trace_extensions.specs.Models.{by_model, IsModelOf, IsDetermined, IsIdle, IsSure, IsToldOf, AreToldOf, TellsFailures}
 use Rattle.trace_extensions.specs.Places.{Place, MayStep}
 use Rattle.trace_extensions.specs.StatementModel.{statement_model, Fails}
+use Rattle.line_extensions.proofs.Wanting.{ends_at}
+use Rattle.trace_extensions.proofs.Idle.{balance_keeps}
 use Rattle.trace_extensions.proofs.Sure.{FailsAt, failure_or_none}
 
 -- THE DESK MOVES AS ITS MODEL
@@ -191,3 +193,51 @@ module _ (τ : Tariff) where
 -- ITS ANSWER HAS A FIRST TEXT, AND NO NODE FAILED IN THE STEP BEFORE IT
 pub statement_tells : (τ : Tariff) (old new : World Place View) (line : List ℕ) (steps : List StepRecord) → DidOwn (by_model statement_model) (MayStep τ) old new line steps Say → TellsFailures Fails steps (statement_model.texts new.desk)
 statement_tells τ old new line steps did = by_line τ old new line steps did.begins.0 did.first did.desk did.begins.2 did.asks
+
+-- WHAT IT ASKS FOR CHANGES NOTHING
+module _ (τ : Tariff) (old new : World Place View) (line : List ℕ) (steps : List StepRecord) (last : Next) where
+  -- the one balance was asked for
+  asked_balance : (w : ℕ) (desk : View) (next : Next) (steps : List StepRecord) → next ≡ Step (ev.Balance w) → Asks (by_model statement_model) (MayStep τ) (world old.scene desk) new next steps last → IsIdle statement_model old new last
+  asked_balance w desk next [] is asks = record {
+    ledger = ap (λ (x : World Place View). x.scene.ledger) asks.1;
+    alike = tt;
+    asks = λ e step. (w, step_same e (sym step ∙ asks.0 ∙ is));
+  }
+    where
+      step_same : (e : Event) → Step e ≡ Step (ev.Balance w) → e ≡ ev.Balance w
+      step_same e same = cc same
+  asked_balance w desk next (d ∷ []) is asks =
+      let same : Step (ev.Balance w) ≡ Step d.event = sym is ∙ asks.2.asks in
+      let event : d.event ≡ ev.Balance w = cc same in
+      record {
+        ledger = ap (λ (x : World Place View). x.scene.ledger) asks.3.1 ∙ ap (λ (s : Place). s.ledger) asks.2.did.new_is ∙ balance_keeps τ old.scene.ledger old.scene.left d w event asks.2.did.may;
+        alike = tt;
+        asks = λ e step. absurd (said e (sym asks.2.goes.0 ∙ sym asks.3.0 ∙ step));
+      }
+    where
+      said : (e : Event) → Say ≡ Step e → ⊥
+      said e wrong = cc wrong
+  asked_balance w desk next (d ∷ f ∷ rest) is asks = let wrong : Say ≡ Step f.event = sym asks.2.goes.0 ∙ asks.3.2.asks in absurd (cc)
+
+  asked_none : (desk : View) (next : Next) → next ≡ Say → Asks (by_model statement_model) (MayStep τ) (world old.scene desk) new next steps last → IsIdle statement_model old new last
+  asked_none desk next is asks =
+      let end = ends_at (by_model statement_model) (MayStep τ) (world old.scene desk) new next steps last asks (inl is) in
+      record {
+        ledger = ap (λ (x : World Place View). x.scene.ledger) end.2;
+        alike = tt;
+        asks = λ e step. absurd (said e (sym is ∙ sym end.1 ∙ step));
+      }
+    where
+      said : (e : Event) → Say ≡ Step e → ⊥
+      said e wrong = cc wrong
+
+  by_own : (own : OwnLine) (next : Next) (desk : View) → Begins old.desk own next desk → Asks (by_model statement_model) (MayStep τ) (world old.scene desk) new next steps last → IsIdle statement_model old new last
+  by_own (Open w) next desk begins asks = asked_balance w desk next steps begins.0 asks
+  by_own Close next desk begins asks = closes old.desk.current begins
+    where
+      closes : (now : Option Opened) → BeginsClose now old.desk next desk → IsIdle statement_model old new last
+      closes None begun = asked_none desk next begun.0 asks
+      closes (Some s) begun = asked_balance s.customer desk next steps begun.0 asks
+
+  pub statement_idle : DidOwn (by_model statement_model) (MayStep τ) old new line steps last → IsIdle statement_model old new last
+  statement_idle did = by_own did.begins.0 did.first did.desk did.begins.2 did.asks

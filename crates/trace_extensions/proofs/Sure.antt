@@ -47,10 +47,10 @@ FailsAt _ reply = ⊥
 
 module _ (Mine : Node → Type 0) where
   -- no node comes on, no mark is printed, and a commit is such a node's
-  record IsFirm (p : Plan) : Type 0 where
+  pub record IsFirm (p : Plan) : Type 0 where
     no_up : (m : Node) (k : ℕ) → p.reply ≡ r.Up m k → ⊥
     no_print : (j : ℕ) → p.reply ≡ r.Printed j → ⊥
-    own : (c : Commit) → p.commit ≡ Some c → Mine (node_of c)
+    pub own : (c : Commit) → p.commit ≡ Some c → Mine (node_of c)
 
   -- a failure is of such a node
   only_mine : (p : Plan) → IsFirm p → (reply : Reply) → FailsTold p (class_of reply) → (m : Node) × Mine m × IsFailure reply m
@@ -114,7 +114,7 @@ read_own n bytes today C (Err fault) = tt
 read_own n bytes today C (Ok k) = marked_own n bytes k.0 today _ _
 
 module _ (τ : Tariff) (H : Ledger) where
-  balance_firm : (w : ℕ) (text : List ℕ) → IsFirm (λ m. ⊥) (plan τ todays_rules H (ev.Balance w) text)
+  pub balance_firm : (w : ℕ) (text : List ℕ) → IsFirm (λ m. ⊥) (plan τ todays_rules H (ev.Balance w) text)
   unfolding plan
   balance_firm w text = dated (λ m. ⊥) _ (λ today. at (λ m. ⊥) Centre H _ (said (λ m. ⊥) r.CentreRefused (centre.told_balance w) (left_act w _ _)
       (λ x. record { no_up = λ m k is. cc; no_print = λ j is. cc }) (λ left. record { no_up = λ m k is. cc; no_print = λ j is. cc }) (balance_own w _ _))) (day_in H)

@@ -6,17 +6,17 @@ use Rattle.line_runs.specs.Lines.{ended}
 use Rattle.trace_extensions.specs.Exact.{HasNext}
 use Rattle.trace_extensions.specs.Fits.{IsText}
 
-drop_at : (l : List (List ℕ)) (n : ℕ) (t : List ℕ) → slice_get l n ≡ Some t → drop n l ≡ t ∷ drop (suc n) l
+pub drop_at : (l : List (List ℕ)) (n : ℕ) (t : List ℕ) → slice_get l n ≡ Some t → drop n l ≡ t ∷ drop (suc n) l
 drop_at [] n t at = absurd (cc at)
 drop_at (x ∷ l) zero t at = cc at
 drop_at (x ∷ l) (suc n) t at = drop_at l n t at
 
-text_at : (l : List (List ℕ)) (n : ℕ) (t : List ℕ) → slice_get l n ≡ Some t → AllByRecursion IsText l → IsText t
+pub text_at : (l : List (List ℕ)) (n : ℕ) (t : List ℕ) → slice_get l n ≡ Some t → AllByRecursion IsText l → IsText t
 text_at [] n t at each = absurd (cc at)
 text_at (x ∷ l) zero t at each = let same : x ≡ t = cc at in subst (λ (y : List ℕ). IsText y) same each.0
 text_at (x ∷ l) (suc n) t at each = text_at l n t at each.1
 
-past : (l : List (List ℕ)) (n : ℕ) → length l ≤ n → drop n l ≡ []
+pub past : (l : List (List ℕ)) (n : ℕ) → length l ≤ n → drop n l ≡ []
 past [] zero long = refl
 past [] (suc n) long = refl
 past (x ∷ l) zero long = absurd (omega (arith, long))

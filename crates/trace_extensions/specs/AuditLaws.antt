@@ -44,26 +44,30 @@ module _ {K T : Type 0} (k : Ghosts K T) where
     Met τ w at report = IsMetIn view τ w at report
 
     only_both : (τ : Tariff) (P Q : World Place V → Option (List ℕ) → Type 0) (xs ys : List (AuditStep k.Own K))
-        → ((at : World Place V) (report : Option (List ℕ)) → P at report → Only k m τ Q at report ys)
-        → (at : World Place V) (report : Option (List ℕ)) → Only k m τ P at report xs → Only k m τ Q at report (xs ++ ys)
+        → ((at : World Place V) (report : Option (List ℕ)) → P at report → Only k view m τ Q at report ys)
+        → (at : World Place V) (report : Option (List ℕ)) → Only k view m τ P at report xs → Only k view m τ Q at report (xs ++ ys)
     only_both τ P Q [] ys next at report p = next at report p
-    only_both τ P Q (Passed line ∷ xs) ys next at report p = λ mid told b may. only_both τ P Q xs ys next mid (Some told) (p mid told b may)
-    only_both τ P Q (Heard line e answer ∷ xs) ys next at report p = λ mid told b may. only_both τ P Q xs ys next mid (Some told) (p mid told b may)
-    only_both τ P Q (Own line own texts ∷ xs) ys next at report p = λ mid told b may. only_both τ P Q xs ys next mid (Some told) (p mid told b may)
+    only_both τ P Q (Passed line ∷ xs) ys next at report p =
+        (p.0, λ mid told b may. only_both τ P Q xs ys next mid (Some told) (p.1 mid told b may))
+    only_both τ P Q (Heard line e answer ∷ xs) ys next at report p =
+        (p.0, λ mid told b may. only_both τ P Q xs ys next mid (Some told) (p.1 mid told b may))
+    only_both τ P Q (Own line own texts ∷ xs) ys next at report p =
+        (p.0, λ mid told b may. only_both τ P Q xs ys next mid (Some told) (p.1 mid told b may))
     only_both τ P Q (Begun line begun left ∷ xs) ys next at report p = p
     only_both τ P Q (Ended line left ∷ xs) ys next at report p = p
 
     both : (x y z : AuditWorld K) (a b : List (AuditStep k.Own K)) → DidAudit k view m x y a → DidAudit k view m y z b → DidAudit k view m x z (a ++ b)
     both x y z a b p q = record {
       kept = q.kept ∙ p.kept;
+      reach = q.reach ∙ p.reach;
       took = took_both x y z a b p.took q.took;
       may = λ τ H texts history sees. may_both τ (IsSeenAt τ y.audit y.rates y.desk) (IsSeenAt τ z.audit z.rates z.desk) a b
           (λ at seen. subst (λ (w : World Place K). MayDo k τ (IsSeenAt τ z.audit z.rates z.desk) w b)
           (at_same at at.scene.ledger y.rates y.desk refl seen.left seen.desk)
           (q.may τ at.scene.ledger texts seen.history seen.sees)) (world (place H x.rates) x.desk) (p.may τ H texts history sees);
       only = λ τ H texts history sees. only_both τ (Met τ y) (Met τ z) a b
-          (λ at report met. subst (λ (r : Option (List ℕ)). Only k m τ (Met τ z) at r b) met.1
-          (subst (λ (w : World Place V). Only k m τ (Met τ z) w y.report b)
+          (λ at report met. subst (λ (r : Option (List ℕ)). Only k view m τ (Met τ z) at r b) met.1
+          (subst (λ (w : World Place V). Only k view m τ (Met τ z) w y.report b)
           (at_same at at.scene.ledger y.rates (view y.desk) refl met.0.left met.0.kept)
           (q.only τ at.scene.ledger texts met.0.history met.0.sees)))
           (world (place H x.rates) (view x.desk)) x.report (p.only τ H texts history sees);
@@ -73,6 +77,7 @@ module _ {K T : Type 0} (k : Ghosts K T) where
     audit_done = record {
       nothing = λ w. record {
         kept = refl;
+        reach = refl;
         took = refl;
         may = λ τ H texts history sees. record { history = history; sees = sees; left = refl; desk = refl };
         only = λ τ H texts history sees. (record { history = history; sees = sees; left = refl; kept = refl }, refl);

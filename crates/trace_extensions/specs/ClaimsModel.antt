@@ -49,6 +49,7 @@ claims_model = record {
   Goes = λ v turn next w. GoesOn standing_keeper v.said turn.reply v next w;
   Sees = λ v turn w. w ≡ v;
   texts = λ v. said_texts v.said;
+  Alike = λ v w. v.rows ≡ w.rows;
 }
 
 -- the line tells this failure of the verifier, whatever the number of the step is: a claim has one scan

@@ -51,6 +51,7 @@ departments_model = record {
   Goes = λ v turn next w. moves.GoesOn kept_keeper v.said turn.reply (sent_in turn.entries) v next w;
   Sees = λ v turn w. w ≡ v;
   texts = λ v. said_texts v.said;
+  Alike = λ v w. v.rows ≡ w.rows;
 }
 
 -- the line tells that the message of a job got this failure of the host

@@ -1,5 +1,5 @@
 -- That a run with an extension fits its script and its report, by the model of the extension; and what a verdict leaves open.
-use Rattle.std.specs.Prelude.{◌≡◌, ◌⊎◌, ℕ, ◌≤◌, List, [], Option, Some, IfSome, length}
+use Rattle.std.specs.Prelude.{◌≡◌, ◌⊎◌, ℕ, ◌≤◌, List, [], Option, Some, None, IfSome, length}
 use Rattle.std.specs.List.{AllByRecursion}
 use Rattle.bench_base.specs.Ledger.{Ledger}
 use Rattle.bench_base.specs.Rules.{editions}
@@ -17,22 +17,34 @@ use Rattle.trace_runs.specs.Verdicts.{status_of}
 use Rattle.trace_runs.specs.declared.verdict.Ending.{Ending}
 use Rattle.trace_extensions.specs.Models.{Model, by_model}
 use Rattle.trace_extensions.specs.Places.{Place, place, MayStep}
-use Rattle.trace_extensions.specs.declared.{papers.SideVerdict.SideVerdict, papers.SideVerdict.TheVariants.Lawful, papers.SideVerdict.TheVariants.Stopped, papers.SideVerdict.TheVariants.StoppedInOwn, papers.SideVerdict.TheVariants.InDoubt, papers.SideVerdict.TheVariants.PastReach, papers.SideVerdict.TheVariants.Wrong, papers.SideVerdict.TheVariants.Forged, papers.SideVerdict.TheVariants.Unkept, papers.SideVerdict.TheVariants.More, papers.SideVerdict.TheVariants.Memory, papers.SideVerdict.TheVariants.Unread}
+use Rattle.trace_extensions.specs.declared.{papers.Reach.Reach, papers.SideVerdict.SideVerdict, papers.SideVerdict.TheVariants.Lawful, papers.SideVerdict.TheVariants.Stopped, papers.SideVerdict.TheVariants.StoppedInOwn, papers.SideVerdict.TheVariants.InDoubt, papers.SideVerdict.TheVariants.PastReach, papers.SideVerdict.TheVariants.Wrong, papers.SideVerdict.TheVariants.Forged, papers.SideVerdict.TheVariants.Unkept, papers.SideVerdict.TheVariants.More, papers.SideVerdict.TheVariants.Memory, papers.SideVerdict.TheVariants.Unread}
 
--- The verdict leaves it open whether a run fits: there was no memory, an input could not be read, the auditor keeps nothing to recognize forged bytes, or
--- it is by how far a run is said to have come in a line of its own.
-abbrev pub IsOpen : SideVerdict → Type 0
-IsOpen (Lawful end) = ⊥
-IsOpen (Stopped n) = ⊥
-IsOpen (StoppedInOwn n) = Unit {0}
-IsOpen (InDoubt n) = Unit {0}
-IsOpen (PastReach n) = Unit {0}
-IsOpen (Wrong n) = ⊥
-IsOpen (Forged n) = ⊥
-IsOpen (Unkept n) = Unit {0}
-IsOpen (More n end) = ⊥
-IsOpen Memory = Unit {0}
-IsOpen (Unread input) = Unit {0}
+-- no more was judged: there was no memory, an input could not be read, or the auditor keeps nothing to recognize forged bytes
+abbrev pub IsCutShort : SideVerdict → Type 0
+IsCutShort (Lawful end) = ⊥
+IsCutShort (Stopped n) = ⊥
+IsCutShort (StoppedInOwn n) = ⊥
+IsCutShort (InDoubt n) = ⊥
+IsCutShort (PastReach n) = ⊥
+IsCutShort (Wrong n) = ⊥
+IsCutShort (Forged n) = ⊥
+IsCutShort (Unkept n) = Unit {0}
+IsCutShort (More n end) = ⊥
+IsCutShort Memory = Unit {0}
+IsCutShort (Unread input) = Unit {0}
+
+-- the reach says that nothing was begun of the line of this number
+abbrev pub IsUnbegun : Option Reach → ℕ → Type 0
+IsUnbegun None n = ⊥
+IsUnbegun (Some reach) n = (reach.line ≡ n) × (reach.steps ≡ None)
+
+-- the verdict is on a line of which nothing was begun, as the reach says: the audit doesn't look what line it is
+abbrev pub IsByReach : Option Reach → SideVerdict → Type 0
+IsByReach reach verdict = (n : ℕ) × IsUnbegun reach n × ((verdict ≡ StoppedInOwn n) ⊎ (verdict ≡ PastReach n))
+
+-- THE VERDICT LEAVES IT OPEN whether a run fits: the audit was cut short, or it is by the reach
+abbrev pub IsOpen : Option Reach → SideVerdict → Type 0
+IsOpen reach verdict = IsCutShort verdict ⊎ IsByReach reach verdict
 
 -- a text that a reader of lines takes
 pub record IsText (text : List ℕ) : Type 0 where
@@ -74,7 +86,7 @@ module _ {V : Type 0} (m : Model V) where
     FitsIfLawful = AtKnown script report (λ text told. (end : Ending) → verdict ≡ Lawful end
         → AtSeen old (λ τ H. (fits : FitsSo τ H text told rates v (status_of end)) × IsLeftSo τ new w fits.run.did.behind))
 
-    -- IF A RUN FITS, from a history that the auditor had, it is lawful, or the verdict leaves it open
-    abbrev pub LawfulIfFits : Type 0
-    LawfulIfFits = AtKnown script report (λ text told. (end : Ending)
-        → AtSeen old (λ τ H. (fits : FitsSo τ H text told rates v (status_of end)) → ((verdict ≡ Lawful end) × IsLeftSo τ new w fits.run.did.behind) ⊎ IsOpen verdict))
+    -- IF A RUN FITS, from a history that the auditor had, it is lawful, or the verdict leaves it open by this reach
+    abbrev pub LawfulIfFits : Option Reach → Type 0
+    LawfulIfFits reach = AtKnown script report (λ text told. (end : Ending)
+        → AtSeen old (λ τ H. (fits : FitsSo τ H text told rates v (status_of end)) → ((verdict ≡ Lawful end) × IsLeftSo τ new w fits.run.did.behind) ⊎ IsOpen reach verdict))

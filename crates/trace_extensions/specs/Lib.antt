@@ -4,6 +4,7 @@ pub mod ClaimsModel
 pub mod DepartmentsHold
 pub mod DepartmentsModel
 pub mod Fits
+pub mod FitsStopped
 pub mod Kept
 pub mod ManifestModel
 pub mod Models

@@ -34,6 +34,7 @@ manifest_model = record {
   Goes = λ v turn next w. GoesOn view_listing view_said v.said turn.reply v next w;
   Sees = λ v turn w. w ≡ v;
   texts = λ v. said_texts v.said;
+  Alike = λ v w. Unit {0};
 }
 
 -- what the answer of a check begins with if the scan of the piece of this number is not accepted

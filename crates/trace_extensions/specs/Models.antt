@@ -4,8 +4,10 @@ use Rattle.bench_base.specs.declared.{words.Node.Node, events.Event.Event, event
 use Rattle.bench_base.specs.declared.events.Event.TheVariants as ev
 use Rattle.node_turns.specs.declared.turn.Turn.{Turn}
 use Rattle.line_extensions.specs.Trace.{StepRecord}
-use Rattle.line_extensions.specs.declared.{extension.Extension.Ghosts, extension.Next.Next, extension.Next.TheVariants.Stop}
+use Rattle.line_extensions.specs.Desks.{World}
+use Rattle.line_extensions.specs.declared.{extension.Extension.Ghosts, extension.Next.Next, extension.Next.TheVariants.Step, extension.Next.TheVariants.Stop}
 use Rattle.trace_bench.specs.Prefixes.{IsFailure}
+use Rattle.trace_extensions.specs.Places.{Place}
 
 -- its moves, each by what is kept before it and after it
 pub record Model (V : Type 0) : Type 1 where
@@ -21,6 +23,8 @@ pub record Model (V : Type 0) : Type 1 where
   pub Sees : V → Turn → V → Type 0
   -- the texts of its answer
   pub texts : V → List (List ℕ)
+  -- the same is kept for the next run
+  pub Alike : V → V → Type 0
 
 -- as an extension, whose own lines are their bytes
 abbrev pub by_model : {V : Type 0} → Model V → Ghosts V Turn
@@ -51,6 +55,17 @@ pub record IsDetermined {V : Type 0} (m : Model V) : Type 0 where
   pub begins : (v w x : V) (line : List ℕ) (next more : Next) → m.Begins v line next w → m.Begins v line more x → (next ≡ more) × (w ≡ x)
   pub goes : (v w x : V) (turn : Turn) (next more : Next) → m.Goes v turn next w → m.Goes v turn more x → (next ≡ more) × (w ≡ x)
   pub sees : (v w x : V) (turn : Turn) → m.Sees v turn w → m.Sees v turn x → w ≡ x
+
+-- each view is like itself, and two that are like a third are alike
+pub record AreAlike {V : Type 0} (m : Model V) : Type 0 where
+  pub same : (v : V) → m.Alike v v
+  pub joined : (u v w : V) → m.Alike u w → m.Alike v w → m.Alike u v
+
+-- What was done for an own line so far changed nothing, and what it asks for next is a balance, if it is a step.
+pub record IsIdle {V : Type 0} (m : Model V) (old new : World Place V) (next : Next) : Type 0 where
+  pub ledger : new.scene.ledger ≡ old.scene.ledger
+  pub alike : m.Alike new.desk old.desk
+  pub asks : (event : Event) → next ≡ Step event → (customer : ℕ) × (event ≡ ev.Balance customer)
 
 -- == what the first line of an answer tells of the steps ==
 

@@ -1,5 +1,5 @@
 -- Several runs of all words, one after the other: what fits them all, and what their verdicts say together.
-use Rattle.std.specs.Prelude.{◌≡◌, List, [], ◌∷◌, Some}
+use Rattle.std.specs.Prelude.{◌≡◌, List, [], ◌∷◌, Option, Some}
 use Rattle.std.specs.List.{AllByRecursion}
 use Rattle.bench_base.specs.declared.ledger.Entry.TheVariants.{Begin}
 use Rattle.bench_base.specs.Ledger.{Ledger}
@@ -10,7 +10,7 @@ use Rattle.trace_runs.specs.Runs.{Papers, FitsRun, FindsNothing as FindsNothingI
 use Rattle.trace_runs.specs.Verdicts.{Says, status_of}
 use Rattle.trace_runs.specs.declared.{verdict.Ending.Ending, verdict.Verdict.Verdict}
 use Rattle.trace_extensions.specs.Fits.{FitsSo, FitsIfLawful, LawfulIfFits, IsOpen as IsOpenIn}
-use Rattle.trace_extensions.specs.declared.{papers.SideVerdict.SideVerdict, papers.SideVerdict.TheVariants.Lawful}
+use Rattle.trace_extensions.specs.declared.{papers.Reach.Reach, papers.SideVerdict.SideVerdict, papers.SideVerdict.TheVariants.Lawful}
 use Rattle.trace_extensions.specs.Words.{Word, Beside, View, model_of, StartsWith, left_beside}
 
 -- == runs that fit ==
@@ -41,26 +41,26 @@ Fit τ H k (r ∷ runs) = (K : Ledger) × (l : Beside) × FitsOne τ H k r K l �
 
 -- == what is said of them ==
 
--- a run that was judged: what the extension had before it and after it, and the verdict
+-- a run that was judged: what the extension had before it and after it, how far the run is said to have come, and the verdict
 pub data Judged : Type 0 where
   EventsJudged : (p : Papers) (v : Verdict) → Judged
-  UnderJudged : (w : Word) (p : Papers) (before after : View w) (v : SideVerdict) → Judged
+  UnderJudged : (w : Word) (p : Papers) (before after : View w) (reach : Option Reach) (v : SideVerdict) → Judged
 
 -- an auditor that had this judged it so and has that then, by the contracts of `judge_next` and `judge_side`
 abbrev pub IsJudged : Audit → Beside → Judged → Audit → Type 0
 IsJudged a k (EventsJudged p v) b = Says v p.script p.report p.rates a b
-IsJudged a k (UnderJudged w p x y v) b =
+IsJudged a k (UnderJudged w p x y reach v) b =
     StartsWith w k x
     × FitsIfLawful (model_of w) (Some p.script) (Some p.report) p.rates x y a b v
-    × LawfulIfFits (model_of w) (Some p.script) (Some p.report) p.rates x y a b v
+    × LawfulIfFits (model_of w) (Some p.script) (Some p.report) p.rates x y a b v reach
 
 abbrev pub beside_after : Beside → Judged → Beside
 beside_after k (EventsJudged p v) = k
-beside_after k (UnderJudged w p x y v) = left_beside w k y
+beside_after k (UnderJudged w p x y reach v) = left_beside w k y
 
 abbrev pub run_of : Judged → Run
 run_of (EventsJudged p v) = Events p
-run_of (UnderJudged w p x y v) = Under w p
+run_of (UnderJudged w p x y reach v) = Under w p
 
 -- a run that was judged, and what the auditor had after it
 pub record AuditedRun : Type 0 where
@@ -79,12 +79,12 @@ runs_of (r ∷ audits) = run_of r.judged ∷ runs_of audits
 -- lawful; or, of events alone, stopped
 abbrev pub FindsNothing : Judged → Type 0
 FindsNothing (EventsJudged p v) = FindsNothingIn v
-FindsNothing (UnderJudged w p x y v) = (end : Ending) × (v ≡ Lawful end)
+FindsNothing (UnderJudged w p x y reach v) = (end : Ending) × (v ≡ Lawful end)
 
 -- the verdict leaves it open whether the run fits
 abbrev pub IsOpen : Judged → Type 0
 IsOpen (EventsJudged p v) = IsCutShort v
-IsOpen (UnderJudged w p x y v) = IsOpenIn v
+IsOpen (UnderJudged w p x y reach v) = IsOpenIn reach v
 
 -- RUNS OF ALL WORDS ARE JUDGED EXACTLY. If the verdicts find nothing, the runs fit. If the runs fit, and no verdict leaves that open, they find nothing.
 pub record AreExact (start : Audit) (k : Beside) (audits : List AuditedRun) : Type 0 where

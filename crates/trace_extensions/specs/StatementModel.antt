@@ -17,6 +17,7 @@ statement_model = record {
   Goes = λ v turn next w. GoesOn v turn next w;
   Sees = λ v turn w. w ≡ seen v turn.entries;
   texts = λ v. said_texts v.said v.listed;
+  Alike = λ v w. Unit {0};
 }
 
 -- No line tells a failure: an own line asks for a balance at most, in which no node fails.

@@ -11,18 +11,20 @@ use Rattle.line_extensions.specs.Desks.{side_grammar}
 use Rattle.line_extensions.specs.declared.extension.Extension.{Ghosts}
 use Rattle.trace_bench.specs.Seeing.{Audit}
 use Rattle.trace_extensions.specs.Fits.{IsOpen, IsText}
-use Rattle.trace_extensions.specs.declared.{papers.SideVerdict.SideVerdict, papers.SideVerdict.TheVariants.Stopped, papers.SideVerdict.TheVariants.StoppedInOwn}
+use Rattle.trace_extensions.specs.declared.{papers.Reach.Reach, papers.SideVerdict.SideVerdict, papers.SideVerdict.TheVariants.Stopped, papers.SideVerdict.TheVariants.StoppedInOwn}
 
--- the auditor, the rates that are left, the extension, what is left of the report, and what is said if the audit ended
+-- the auditor, the rates that are left, the extension, what is left of the report, what is said if the audit ended, and how far the run is said to have come
 pub record AuditWorld (K : Type 0) : Type 0 where
   pub audit : Audit
   pub rates : List ℕ
   pub desk : K
   pub report : Option (List ℕ)
   pub verdict : SideVerdict
+  pub reach : Option Reach
 
-abbrev pub audit_world : {K : Type 0} → Audit → List ℕ → K → Option (List ℕ) → SideVerdict → AuditWorld K
-audit_world audit rates desk report verdict = record { audit = audit; rates = rates; desk = desk; report = report; verdict = verdict }
+abbrev pub audit_world : {K : Type 0} → Audit → List ℕ → K → Option (List ℕ) → SideVerdict → Option Reach → AuditWorld K
+audit_world audit rates desk report verdict reach =
+    record { audit = audit; rates = rates; desk = desk; report = report; verdict = verdict; reach = reach }
 
 -- the run was stopped, and what may have been done is told
 abbrev pub IsStop : {K : Type 0} → AuditWorld K → Type 0
@@ -61,8 +63,8 @@ module _ {L K : Type 0} where
   AuditIsOf IsOwn (Passed line) = IsSkipped line
   AuditIsOf IsOwn (Heard line e answer) = IsLineOf e line
   AuditIsOf IsOwn (Own line own texts) = IsOwn own line × AllByRecursion IsText texts
-  AuditIsOf IsOwn (Begun line told left) = IsOpen left.verdict ⊎ IsKnown IsOwn line
-  AuditIsOf IsOwn (Ended line left) = (IsStop left → ⊥) × (IsOpen left.verdict ⊎ IsKnown IsOwn line)
+  AuditIsOf IsOwn (Begun line told left) = IsOpen left.reach left.verdict ⊎ IsKnown IsOwn line
+  AuditIsOf IsOwn (Ended line left) = (IsStop left → ⊥) × (IsOpen left.reach left.verdict ⊎ IsKnown IsOwn line)
 
   abbrev pub AuditIsEnd : AuditStep L K → Type 0
   AuditIsEnd (Passed line) = ⊥

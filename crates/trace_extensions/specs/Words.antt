@@ -1,5 +1,5 @@
 -- The words of the meter under which a script has lines of its own; and what is kept beside a bench from one run to the next.
-use Rattle.std.specs.Prelude.{◌≡◌, Option, None}
+use Rattle.std.specs.Prelude.{◌≡◌, None}
 use Rattle.spoil_claims.specs.Claims.{Claims}
 use Rattle.host_departments.specs.Rows.{Rows}
 use Rattle.centre_statement.specs.Desk.{View as StatementView, fresh}

@@ -104,9 +104,10 @@ module _ {K T : Type 0} (k : Ghosts K T) {V : Type 0} (view : K → V) (m : Mode
   -- only that may have been done, with what the report has.
   pub record DidAudit (old new : AuditWorld K) (trace : List (AuditStep k.Own K)) : Type 0 where
     pub kept : keeps new.audit ≡ keeps old.audit
+    pub reach : new.reach ≡ old.reach
     pub took : Took k old new trace
     pub may : AtEachSeen old.audit (λ τ H. MayDo k τ (IsSeenAt τ new.audit new.rates new.desk) (world (place H old.rates) old.desk) trace)
-    pub only : AtEachSeen old.audit (λ τ H. Only k m τ (IsMetIn view τ new) (world (place H old.rates) (view old.desk)) old.report trace)
+    pub only : AtEachSeen old.audit (λ τ H. Only k view m τ (IsMetIn view τ new) (world (place H old.rates) (view old.desk)) old.report trace)
 
 -- an audit leaves what it leaves, however it ends
 abbrev pub AuditLeaves : {K : Type 0} → SideStatus → AuditWorld K → AuditWorld K → Type 0

@@ -5,8 +5,9 @@ ghost use Rattle.std.specs.Io.KnownBytes.{Consumes, IsAtEnd};
 ghost use Rattle.trace_bench.specs.Stopping.{IsPrefixOf};
 ghost use Rattle.trace_extensions.specs.declared.papers.SideVerdict.{SideVerdict as Verdict};
 ghost use Rattle.line_runs.specs.Lines.{ended};
-ghost use Rattle.trace_extensions.specs.Exact.{HasNext};
-ghost use Rattle.trace_extensions.specs.Fits.{IsOpen, IsText};
+ghost use Rattle.trace_extensions.specs.Exact.{HasNext, IsCalledStopped};
+ghost use Rattle.trace_extensions.specs.Fits.{IsCutShort, IsText};
+ghost use Rattle.trace_extensions.specs.FitsStopped.{IsCutOf};
 
 use crate::papers::{Papers, SideVerdict};
 use bench_base::stream::Source;
@@ -36,7 +37,10 @@ fn compare_next<R: Source>(papers: &mut Papers<R>, text: &[u8]) -> Compared
         × IsAtEnd (⟦<ReadAhead<R> as Source>⟧.left papers.new.report) }
     ensures only { (told : List ℕ) → IsText text.now → HasNext (⟦<ReadAhead<R> as Source>⟧.left papers.old.report) text.now told
         → ((result ≡ Compared.Same) × (⟦<ReadAhead<R> as Source>⟧.left papers.new.report ≡ Some told)) ⊎ (result ≡ Compared.Fault) }
+    ensures stops { (told : List ℕ) → IsText told → ⟦<ReadAhead<R> as Source>⟧.left papers.old.report ≡ Some told → IsPrefixOf told text.now
+        → (result ≡ Compared.Open) ⊎ (result ≡ Compared.Fault) }
     ensures text { result ≡ Compared.Same → IsText text.now }
+    ensures reach { papers.new.reach ≡ papers.old.reach }
 {
     let mut buf = [0; 600];
     match read_line(&mut papers.report, &mut buf) {
@@ -67,8 +71,10 @@ fn is_same<R: Source>(number: u32, papers: &mut Papers<R>, text: Line, compared:
     ensures open { result ≡ false → (n : ℕ) → papers.new.verdict ≡ Verdict.Stopped n → compared ≡ Compared.Open }
     ensures in_own { result ≡ false → (n : ℕ) → papers.new.verdict ≢ Verdict.StoppedInOwn n }
     ensures report { papers.new.report ≡ papers.old.report }
-    ensures fault { compared ≡ Compared.Fault → MatchBool result ⊥ (IsOpen papers.new.verdict) }
+    ensures fault { compared ≡ Compared.Fault → MatchBool result ⊥ (IsCutShort papers.new.verdict) }
     ensures goes_on { compared ≡ Compared.Same → result ≡ true }
+    ensures stops { compared ≡ Compared.Open → (result ≡ false) × (papers.new.verdict ≡ Verdict.Stopped number) }
+    ensures reach { papers.new.reach ≡ papers.old.reach }
 {
     match compared {
         Compared::Same => return true,
@@ -95,8 +101,11 @@ fn rest_fits<D: Extension, R: Source>(number: u32, desk: &D, papers: &mut Papers
     ensures in_own { result ≡ false → (n : ℕ) → papers.new.verdict ≢ Verdict.StoppedInOwn n }
     ensures only { (first : List ℕ) (more : List (List ℕ)) (told : List ℕ) → D.texts desk.now ≡ first ∷ more → AllByRecursion IsText more
         → ⟦<ReadAhead<R> as Source>⟧.left papers.old.report ≡ Some (flat_map ended more ++ told)
-        → MatchBool result (⟦<ReadAhead<R> as Source>⟧.left papers.new.report ≡ Some told) (IsOpen papers.new.verdict) }
+        → MatchBool result (⟦<ReadAhead<R> as Source>⟧.left papers.new.report ≡ Some told) (IsCutShort papers.new.verdict) }
+    ensures stops { (first : List ℕ) (more : List (List ℕ)) (told : List ℕ) → D.texts desk.now ≡ first ∷ more → IsCutOf told more
+        → ⟦<ReadAhead<R> as Source>⟧.left papers.old.report ≡ Some told → MatchBool result ⊥ (IsCalledStopped number papers.new.verdict) }
     ensures texts { result ≡ true → (first : List ℕ) (more : List (List ℕ)) → D.texts desk.now ≡ first ∷ more → AllByRecursion IsText more }
+    ensures reach { papers.new.reach ≡ papers.old.reach }
 {
     for at in 1..desk.count() {
         let mut text = Line::new();
@@ -125,8 +134,11 @@ pub(crate) fn answer_fits<D: Extension, R: Source>(
     ensures in_own { result ≡ false → (n : ℕ) → papers.new.verdict ≢ Verdict.StoppedInOwn n }
     ensures only { (more : List (List ℕ)) (told : List ℕ) → D.texts desk.now ≡ first.now ∷ more → AllByRecursion IsText more
         → ⟦<ReadAhead<R> as Source>⟧.left papers.old.report ≡ Some (flat_map ended more ++ told)
-        → MatchBool result (⟦<ReadAhead<R> as Source>⟧.left papers.new.report ≡ Some told) (IsOpen papers.new.verdict) }
+        → MatchBool result (⟦<ReadAhead<R> as Source>⟧.left papers.new.report ≡ Some told) (IsCutShort papers.new.verdict) }
+    ensures stops { (more : List (List ℕ)) (told : List ℕ) → D.texts desk.now ≡ first.now ∷ more → IsCutOf told more
+        → ⟦<ReadAhead<R> as Source>⟧.left papers.old.report ≡ Some told → MatchBool result ⊥ (IsCalledStopped number papers.new.verdict) }
     ensures texts { result ≡ true → IsText first.now → AllByRecursion IsText (D.texts desk.now) }
+    ensures reach { papers.new.reach ≡ papers.old.reach }
 {
     if desk.count() == 0 {
         papers.end(SideVerdict::Wrong(number));
@@ -157,6 +169,9 @@ pub(crate) fn answer_begins<D: Extension, R: Source>(
         → (verdict ≡ Verdict.Stopped n) × IsPrefixOf prefix.now (flat_map ended (D.texts desk.now)) }
     ensures in_own { (n : ℕ) → papers.new.verdict ≡ Verdict.StoppedInOwn n
         → (verdict ≡ Verdict.StoppedInOwn n) × IsPrefixOf prefix.now (flat_map ended (D.texts desk.now)) }
+    ensures begins { (text : List ℕ) (more : List (List ℕ)) → D.texts desk.now ≡ text ∷ more → IsPrefixOf prefix.now text
+        → papers.new.verdict ≡ verdict }
+    ensures reach { papers.new.reach ≡ papers.old.reach }
 {
     if desk.count() == 0 {
         return papers.end(SideVerdict::Wrong(number));

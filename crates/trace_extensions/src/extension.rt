@@ -6,13 +6,15 @@ use line_extensions::{Extension, Next};
 
 /// An extension with own lines that an auditor can judge.
 pub trait TracedExtension: Extension {
-    ghost use Rattle.std.specs.Prelude.{ℕ, List};
+    ghost use Rattle.std.specs.Prelude.{ℕ, List, [], ◌∷◌, false};
     ghost use Rattle.bench_base.specs.declared.events.Reply.{Reply};
     ghost use Rattle.ledger_moves.specs.Tariffs.{Tariff};
     ghost use Rattle.line_extensions.specs.Desks.{World, DidOwn};
     ghost use Rattle.line_extensions.specs.Trace.{StepRecord};
+    ghost use Rattle.line_extensions.specs.declared.extension.Next.{Next as TheNext};
     ghost use Rattle.line_extensions.specs.declared.extension.Next.TheVariants.{Say};
-    ghost use Rattle.trace_extensions.specs.Models.{Model, by_model, IsDetermined, IsModelOf, TellsFailures};
+    ghost use Rattle.trace_bench.specs.Stopping.{IsPrefixOf};
+    ghost use Rattle.trace_extensions.specs.Models.{Model, by_model, AreAlike, AreToldOf, IsDetermined, IsIdle, IsModelOf, TellsFailures};
     ghost use Rattle.trace_extensions.specs.Places.{Place, MayStep};
 
     /// What it keeps and says, whatever its storage is.
@@ -32,8 +34,16 @@ pub trait TracedExtension: Extension {
         ensures none { IfNone result ((reply : Reply) → Fails step line.now reply → ⊥) };
 
     /// Whether it is in doubt what was done for an own line for which this was asked first, if the report ends with this prefix of its answer: none,
-    /// some or all of it, without its line end. The line was begun, and no step of it was done.
-    fn is_in_doubt(&self, first: &Next, prefix: &[u8]) -> bool;
+    /// some or all of it, without its line end. The line was begun, and no step of it was done. If it is in doubt, the caller asks how far the run came.
+    /// If not, and the prefix begins the answer, all was done, and no node failed in it but as the prefix tells (`settled`). And if nothing was
+    /// written of the answer, nothing that may have been done changes anything (`idle`).
+    fn is_in_doubt(&self, first: &Next, prefix: &[u8]) -> bool
+        ensures settled { result ≡ false → (τ : Tariff) (old new : World Place View) (line text : List ℕ) (more : List (List ℕ)) (steps : List StepRecord)
+            (did : DidOwn (by_model model) (MayStep τ) old new line steps Say) → did.first ≡ first.now → did.desk ≡ view self.now
+            → model.texts new.desk ≡ text ∷ more → IsPrefixOf prefix.now text → AreToldOf Fails 1 prefix.now steps }
+        ensures idle { result ≡ false → prefix.now ≡ [] → (τ : Tariff) (old new : World Place View) (line : List ℕ) (steps : List StepRecord) (next : TheNext)
+            (did : DidOwn (by_model model) (MayStep τ) old new line steps next) → did.first ≡ first.now → did.desk ≡ view self.now
+            → IsIdle model old new next };
 
     /// What this prefix of an answer has of the reply to the step of this number, counted from 1, if no step follows that one: none, some or all of it,
     /// without its line end. `None` if no such answer begins so.
@@ -43,6 +53,7 @@ pub trait TracedExtension: Extension {
     fn laws()
         ensures modelled { IsModelOf ⟦<Self as Extension>⟧ view model }
         ensures determined { IsDetermined model }
+        ensures alike { AreAlike model }
         ensures one_failure { (number : ℕ) (line : List ℕ) (x y : Reply) → Fails number line x → Fails number line y → x ≡ y }
         ensures tells { (τ : Tariff) (old new : World Place View) (line : List ℕ) (steps : List StepRecord)
             → DidOwn (by_model model) (MayStep τ) old new line steps Say → TellsFailures Fails steps (model.texts new.desk) };

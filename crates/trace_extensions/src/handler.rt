@@ -7,8 +7,9 @@ ghost use Rattle.line_extensions.specs.Desks.{World, world};
 ghost use Rattle.line_extensions.specs.Trace.{StepRecord};
 ghost use Rattle.line_extensions.specs.declared.extension.Next.{Next as TheNext};
 ghost use Rattle.line_runs.specs.Lines.{ended};
-ghost use Rattle.trace_extensions.specs.Exact.{HasNext, IsMet, MayAnswer};
-ghost use Rattle.trace_extensions.specs.Fits.{IsOpen, IsText};
+ghost use Rattle.trace_extensions.specs.Exact.{EachOwnLeft, HasNext, IsMet, MayAnswer};
+ghost use Rattle.trace_extensions.specs.Fits.{IsCutShort, IsText};
+ghost use Rattle.trace_extensions.specs.FitsStopped.{TellsOwnStop};
 ghost use Rattle.trace_extensions.specs.Places.{Place, place};
 ghost use Rattle.trace_extensions.specs.Takes.{AtEachSeen};
 ghost use Rattle.trace_bench.specs.Seeing.{IsReady, audit_of, keeps};
@@ -96,8 +97,12 @@ fn own_fits<R: Source, D: TracedExtension>(
         → MayAnswer D.model D.Fails τ (world (place H (left_of rates.old)) (D.view desk.old)) mid first answer.now more steps
         → ⟦<ReadAhead<R> as Source>⟧.left papers.old.report ≡ Some (flat_map ended more ++ told)
         → MatchBool result (IsMet D.view τ (audit_of auditor.new) (left_of rates.new) desk.new mid
-        × (⟦<ReadAhead<R> as Source>⟧.left papers.new.report ≡ Some told)) (IsOpen papers.new.verdict)) }
+        × (⟦<ReadAhead<R> as Source>⟧.left papers.new.report ≡ Some told)) (IsCutShort papers.new.verdict)) }
     ensures texts { result ≡ true → IsText answer.now → AllByRecursion IsText (D.texts desk.new) }
+    ensures stops { AtEachSeen (audit_of auditor.old) (λ τ H. (told : List ℕ) → IsText answer.now → ⟦<ReadAhead<R> as Source>⟧.left papers.old.report ≡ Some told
+        → EachOwnLeft D.model τ (place H (left_of rates.old)) (D.view desk.old) first (ended answer.now ++ told) (λ K kept. MatchBool result ⊥
+        (TellsOwnStop D.model papers.new.reach papers.new.verdict (audit_of auditor.new) (D.view desk.new) K kept))) }
+    ensures reach { papers.new.reach ≡ papers.old.reach }
 {
     D::laws();
     match ask_all(
@@ -157,8 +162,12 @@ fn own_line<R: Source, D: TracedExtension>(
         → MayAnswer D.model D.Fails τ (world (place H (left_of rates.old)) (D.view desk.old)) mid first line more steps
         → HasNext (⟦<ReadAhead<R> as Source>⟧.left papers.old.report) line (flat_map ended more ++ told)
         → MatchBool result (IsMet D.view τ (audit_of auditor.new) (left_of rates.new) desk.new mid
-        × (⟦<ReadAhead<R> as Source>⟧.left papers.new.report ≡ Some told)) (IsOpen papers.new.verdict)) }
+        × (⟦<ReadAhead<R> as Source>⟧.left papers.new.report ≡ Some told)) (IsCutShort papers.new.verdict)) }
     ensures texts { result ≡ true → AllByRecursion IsText (D.texts desk.new) }
+    ensures stops { AtEachSeen (audit_of auditor.old) (λ τ H. (told : List ℕ) → ⟦<ReadAhead<R> as Source>⟧.left papers.old.report ≡ Some told
+        → EachOwnLeft D.model τ (place H (left_of rates.old)) (D.view desk.old) first told (λ K kept. MatchBool result ⊥
+        (TellsOwnStop D.model papers.new.reach papers.new.verdict (audit_of auditor.new) (D.view desk.new) K kept))) }
+    ensures reach { papers.new.reach ≡ papers.old.reach }
 {
     let mut buf = [0; 600];
     match read_line(&mut papers.report, &mut buf) {
@@ -204,7 +213,7 @@ impl<R: Source, D: TracedExtension> LineHandler for AtReport<R, D> {
     ghost World = { AuditWorld D };
 
     ghost world = { λ desk auditor rates papers. audit_world (audit_of auditor) (left_of rates) desk (⟦<ReadAhead<R> as Source>⟧.left papers.report)
-        papers.verdict };
+        papers.verdict papers.reach };
 
     ghost IsReady = { λ w. IsReady w.audit };
 

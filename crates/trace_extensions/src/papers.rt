@@ -1,5 +1,5 @@
 //! What an audit reads beside the script of a run, and what it finds.
-ghost use Rattle.std.specs.Prelude.{◌≡◌};
+ghost use Rattle.std.specs.Prelude.{◌≡◌, ◌↔◌, IsTrue, None};
 
 use crate::transcript::Transcript;
 use bench_base::stream::Source;
@@ -70,6 +70,8 @@ pub struct Papers<R: Source> {
 }
 
 impl<R: Source> Papers<R> {
+    ghost use Rattle.trace_extensions.specs.Fits.{IsUnbegun};
+
     /// Of a report of which nothing was read.
     pub fn new(
         report: ReadAhead<R>,
@@ -94,7 +96,9 @@ impl<R: Source> Papers<R> {
     }
 
     // Whether nothing of the line of this number was begun.
-    pub(crate) fn is_unbegun(&self, line: u32) -> bool {
+    pub(crate) fn is_unbegun(&self, line: u32) -> bool
+        ensures { IsTrue result ↔ IsUnbegun self.now.reach line }
+    {
         match self.reach {
             Some(reach) => reach.line == line && reach.steps.is_none(),
             None => false,
@@ -102,7 +106,9 @@ impl<R: Source> Papers<R> {
     }
 
     // How many steps of the line of this number were done, if it was begun.
-    pub(crate) fn steps_in(&self, line: u32) -> Option<u32> {
+    pub(crate) fn steps_in(&self, line: u32) -> Option<u32>
+        ensures none { self.now.reach ≡ None → result ≡ None }
+    {
         match self.reach {
             Some(reach) if reach.line == line => reach.steps,
             _ => None,
@@ -118,6 +124,7 @@ impl<R: Source> Papers<R> {
     pub(crate) fn end(&mut self, verdict: SideVerdict)
         ensures report { self.new.report ≡ self.old.report }
         ensures verdict { self.new.verdict ≡ verdict }
+        ensures reach { self.new.reach ≡ self.old.reach }
     {
         self.verdict = verdict;
     }

@@ -5,10 +5,11 @@ ghost use Rattle.bench_base.specs.Events.{IsWholeEvent};
 ghost use Rattle.bench.specs.declared.benches.TheConstants.{MOST_MESSAGES};
 ghost use Rattle.line_runs.specs.Lines.{IsOneLine, ended};
 ghost use Rattle.trace_bench.specs.Stopping.{IsPrefixOf};
-ghost use Rattle.trace_extensions.specs.Exact.{EachReply, HasNext, IsOpenMiss};
-ghost use Rattle.trace_extensions.specs.Fits.{IsOpen};
+ghost use Rattle.trace_extensions.specs.Exact.{EachLeft, EachReply, HasNext, IsOpenMiss};
+ghost use Rattle.trace_extensions.specs.Fits.{IsCutShort};
 ghost use Rattle.trace_bench.specs.Seeing.{IsReady, audit_of, keeps};
 ghost use Rattle.trace_extensions.specs.Rates.{left_of};
+ghost use Rattle.trace_runs.specs.Between.{SeesBetween};
 ghost use Rattle.trace_extensions.specs.Takes.{TakesLine, IsBegunAt, EndsWithin};
 ghost use Rattle.trace_extensions.specs.declared.papers.SideVerdict.{SideVerdict as Verdict};
 
@@ -17,6 +18,7 @@ use crate::rates::RatesLeft;
 use crate::taking::{Miss, take, take_prefix};
 use bench_base::events::Event;
 use bench_base::stream::Source;
+use ledger_laws::laws::histories;
 use line_runs::lines::{LineRead, read_line};
 use node_turns::Tell;
 use script_text::write_reply;
@@ -31,7 +33,7 @@ impl Miss {
     fn verdict(&self, number: u32) -> SideVerdict
         ensures unstopped { (n : ℕ) → result ≢ Verdict.Stopped n }
         ensures in_own { (n : ℕ) → result ≢ Verdict.StoppedInOwn n }
-        ensures open { IsOpenMiss self.now → IsOpen result }
+        ensures open { IsOpenMiss self.now → IsCutShort result }
     {
         match self {
             Miss::Wrong(_) => SideVerdict::Wrong(number),
@@ -47,7 +49,8 @@ pub(crate) fn miss<R: Source>(papers: &mut Papers<R>, number: u32, miss: Miss)
     ensures report { papers.new.report ≡ papers.old.report }
     ensures unstopped { (n : ℕ) → papers.new.verdict ≢ Verdict.Stopped n }
     ensures in_own { (n : ℕ) → papers.new.verdict ≢ Verdict.StoppedInOwn n }
-    ensures open { IsOpenMiss miss → IsOpen papers.new.verdict }
+    ensures open { IsOpenMiss miss → IsCutShort papers.new.verdict }
+    ensures reach { papers.new.reach ≡ papers.old.reach }
 {
     if let Miss::Wrong(due) = &miss {
         papers.due = write_reply(due);
@@ -76,8 +79,12 @@ fn stopped<R: Source>(
         → IsBegunAt event.now prefix.now (left_of rates.now) (audit_of auditor.old) (audit_of auditor.new) × (length prefix.now ≤ 256) }
     ensures in_own { (n : ℕ) → papers.new.verdict ≢ Verdict.StoppedInOwn n }
     ensures missed { EachReply event.now (left_of rates.now) (audit_of auditor.old) (λ text. IsPrefixOf prefix.now text)
-        (IsOpen papers.new.verdict ⊎ (length prefix.now ≤ 256)) }
+        (IsCutShort papers.new.verdict ⊎ (length prefix.now ≤ 256)) }
+    ensures stops { EachLeft event.now (left_of rates.now) prefix.now (audit_of auditor.old)
+        (λ K. ((papers.new.verdict ≡ Verdict.Stopped number) × SeesBetween (audit_of auditor.new) K) ⊎ IsCutShort papers.new.verdict) }
+    ensures reach { papers.new.reach ≡ papers.old.reach }
 {
+    histories();
     let open = open_in(event, due_mark(auditor, event), prefix);
     match take_prefix(alloc, auditor, rates, event, prefix) {
         Ok(()) => {
@@ -113,7 +120,8 @@ fn heard<T: Tell, R: Source>(
     ensures unstopped { IfNone result ((n : ℕ) → papers.new.verdict ≢ Verdict.Stopped n) }
     ensures in_own { IfNone result ((n : ℕ) → papers.new.verdict ≢ Verdict.StoppedInOwn n) }
     ensures missed { IfNone result (EachReply event.now (left_of rates.old) (audit_of auditor.old) (λ text. text ≡ line.now)
-        (IsOpen papers.new.verdict)) }
+        (IsCutShort papers.new.verdict)) }
+    ensures reach { papers.new.reach ≡ papers.old.reach }
 {
     let given = given_in(event, due_mark(auditor, event), line);
     match take(alloc, auditor, rates, event, line) {
@@ -166,7 +174,13 @@ pub(crate) fn answer<T: Tell, R: Source>(
         (⟦<ReadAhead<R> as Source>⟧.left papers.old.report) (⟦<ReadAhead<R> as Source>⟧.left papers.new.report)) }
     ensures in_own { IfNone result ((n : ℕ) → papers.new.verdict ≢ Verdict.StoppedInOwn n) }
     ensures missed { IfNone result (EachReply event.now (left_of rates.old) (audit_of auditor.old)
-        (λ text. (told : List ℕ) × HasNext (⟦<ReadAhead<R> as Source>⟧.left papers.old.report) text told) (IsOpen papers.new.verdict)) }
+        (λ text. (told : List ℕ) × HasNext (⟦<ReadAhead<R> as Source>⟧.left papers.old.report) text told) (IsCutShort papers.new.verdict)) }
+    ensures unstopped { IfSome result (λ x. (told : List ℕ) → ⟦<ReadAhead<R> as Source>⟧.left papers.old.report ≡ Some told
+        → EachLeft event.now (left_of rates.old) told (audit_of auditor.old) (λ K. ⊥)) }
+    ensures stops { IfNone result ((told : List ℕ) → ⟦<ReadAhead<R> as Source>⟧.left papers.old.report ≡ Some told
+        → EachLeft event.now (left_of rates.old) told (audit_of auditor.old)
+        (λ K. ((papers.new.verdict ≡ Verdict.Stopped number) × SeesBetween (audit_of auditor.new) K) ⊎ IsCutShort papers.new.verdict)) }
+    ensures reach { papers.new.reach ≡ papers.old.reach }
 {
     match read_line(&mut papers.report, buf) {
         LineRead::Line(len, true) => {

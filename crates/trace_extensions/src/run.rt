@@ -2,7 +2,8 @@
 ghost use Rattle.std.specs.Prelude.{◌≡◌, ◌≢◌, ◌⊎◌, ℕ, [], Some};
 ghost use Rattle.std.specs.Io.KnownBytes.{Consumes, IsAtEnd};
 ghost use Rattle.trace_bench.specs.Seeing.{IsReady, audit_of, keeps};
-ghost use Rattle.trace_extensions.specs.Fits.{FitsIfLawful, LawfulIfFits, IsOpen};
+ghost use Rattle.trace_extensions.specs.Fits.{FitsIfLawful, LawfulIfFits, IsCutShort};
+ghost use Rattle.trace_extensions.specs.FitsStopped.{StoppedIfFits, StoppedInOwnIfFits};
 ghost use Rattle.trace_extensions.specs.Sides.{MayHaveRun, MayHaveStopped};
 ghost use Rattle.trace_extensions.specs.declared.papers.SideVerdict.{SideVerdict as Verdict};
 ghost use Rattle.trace_runs.specs.Verdicts.{status_of};
@@ -29,7 +30,7 @@ fn over<R: Source>(papers: &mut Papers<R>, end: Ending) -> SideVerdict
         × Consumes (⟦<ReadAhead<R> as Source>⟧.left papers.old.report) (⟦<ReadAhead<R> as Source>⟧.left papers.new.report) [] }
     ensures unstopped { (n : ℕ) → result ≢ Verdict.Stopped n }
     ensures in_own { (n : ℕ) → result ≢ Verdict.StoppedInOwn n }
-    ensures only { ⟦<ReadAhead<R> as Source>⟧.left papers.old.report ≡ Some [] → (result ≡ Verdict.Lawful end) ⊎ IsOpen result }
+    ensures only { ⟦<ReadAhead<R> as Source>⟧.left papers.old.report ≡ Some [] → (result ≡ Verdict.Lawful end) ⊎ IsCutShort result }
 {
     let mut buf = [0; 600];
     match read_line(&mut papers.report, &mut buf) {
@@ -45,7 +46,7 @@ fn unlawful(verdict: SideVerdict) -> SideVerdict
     ensures unlawful { (e : TheEnding) → result ≢ Verdict.Lawful e }
     ensures stopped { (n : ℕ) → result ≡ Verdict.Stopped n → verdict ≡ Verdict.Stopped n }
     ensures in_own { (n : ℕ) → result ≡ Verdict.StoppedInOwn n → verdict ≡ Verdict.StoppedInOwn n }
-    ensures open { IsOpen verdict → IsOpen result }
+    ensures only { (result ≡ verdict) ⊎ IsCutShort result }
 {
     match verdict {
         SideVerdict::Lawful(_) => SideVerdict::Memory,
@@ -59,6 +60,9 @@ fn unlawful(verdict: SideVerdict) -> SideVerdict
 /// It is lawful if and only if some run fits the script and the report, by the model of the extension, unless the verdict leaves that open: so a run that
 /// is called wrong, forged or longer than its script is none. If it was stopped, the whole lines of the report may have been written so, and the
 /// next line of the script begun: the auditor sees what that may leave, and the extension is as it found it. `InDoubt` says nothing of either.
+///
+/// If a run may have been stopped at the line of an event, it is called stopped, unless the verdict leaves that open; and the auditor sees what that
+/// stop leaves. If one may have been stopped at an own line, it is called stopped, too, or in doubt, if no reach is given.
 pub fn judge_side<S: Source, R: Source, D: TracedExtension>(
     alloc: Global,
     auditor: &mut Auditor,
@@ -85,7 +89,11 @@ pub fn judge_side<S: Source, R: Source, D: TracedExtension>(
     ensures fits { FitsIfLawful D.model (⟦<ReadAhead<S> as Source>⟧.left script.old) (⟦<ReadAhead<R> as Source>⟧.left papers.old.report) rates.items
         (D.view desk.old) (D.view desk.new) (audit_of auditor.old) (audit_of auditor.new) result }
     ensures complete { LawfulIfFits D.model (⟦<ReadAhead<S> as Source>⟧.left script.old) (⟦<ReadAhead<R> as Source>⟧.left papers.old.report) rates.items
-        (D.view desk.old) (D.view desk.new) (audit_of auditor.old) (audit_of auditor.new) result }
+        (D.view desk.old) (D.view desk.new) (audit_of auditor.old) (audit_of auditor.new) result papers.old.reach }
+    ensures stops { StoppedIfFits D.model (⟦<ReadAhead<S> as Source>⟧.left script.old) (⟦<ReadAhead<R> as Source>⟧.left papers.old.report) rates.items
+        (D.view desk.old) (D.view desk.new) (audit_of auditor.old) (audit_of auditor.new) result papers.old.reach }
+    ensures own_stops { StoppedInOwnIfFits D.model (⟦<ReadAhead<S> as Source>⟧.left script.old) (⟦<ReadAhead<R> as Source>⟧.left papers.old.report)
+        rates.items (D.view desk.old) (D.view desk.new) (audit_of auditor.old) (audit_of auditor.new) result papers.old.reach }
 {
     D::laws();
     auditor.begin();

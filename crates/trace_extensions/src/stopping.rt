@@ -1,11 +1,20 @@
 //! A report that ends within the answer to a line of its own.
-ghost use Rattle.std.specs.Prelude.{◌≡◌, ◌≢◌, ◌⊎◌, ◌+◌, ◌<◌, ◌≤◌, ℕ, List, [], length};
+ghost use Rattle.std.specs.Prelude.{◌≡◌, ◌≢◌, ◌↔◌, ◌⊎◌, ◌+◌, ◌<◌, ◌≤◌, ℕ, List, [], ◌∷◌, IsTrue, length};
 ghost use Rattle.std.specs.Io.KnownBytes.{Consumes, IsAtEnd};
 ghost use Rattle.bench.specs.declared.benches.TheConstants.{MOST_MESSAGES};
 ghost use Rattle.bench_base.specs.Events.{IsWholeEvent};
-ghost use Rattle.line_extensions.specs.Wants.{MayAsk};
+ghost use Rattle.line_extensions.specs.Desks.{World, world, Asks};
+ghost use Rattle.line_extensions.specs.Trace.{StepRecord};
+ghost use Rattle.line_extensions.specs.Wants.{MayAsk, IsStep};
+ghost use Rattle.line_extensions.specs.declared.extension.Next.{Next as TheNext};
+ghost use Rattle.line_runs.specs.Lines.{IsOneLine};
 ghost use Rattle.trace_bench.specs.Seeing.{IsReady, Sees, audit_of, keeps};
-ghost use Rattle.trace_extensions.specs.Fits.{IsOpen};
+ghost use Rattle.trace_bench.specs.Stopping.{IsPrefixOf};
+ghost use Rattle.trace_extensions.specs.Exact.{EachOwnLeft, IsMet};
+ghost use Rattle.trace_extensions.specs.Fits.{IsCutShort, IsOpen, IsUnbegun};
+ghost use Rattle.trace_extensions.specs.FitsStopped.{TellsOwnStop};
+ghost use Rattle.trace_extensions.specs.Models.{by_model, AreToldOf};
+ghost use Rattle.trace_extensions.specs.Places.{Place, place, MayStep};
 ghost use Rattle.trace_extensions.specs.Rates.{left_of};
 ghost use Rattle.trace_extensions.specs.Takes.{AtEachSeen, IsBegunAt};
 ghost use Rattle.trace_extensions.specs.Worlds.{EndsInOwn};
@@ -28,13 +37,21 @@ use text_streams::ReadAhead;
 use trace_bench::Auditor;
 use trace_runs::Input;
 
+// Whether a step is asked for.
+fn is_step(next: &Next) -> bool
+    ensures { IsTrue result ↔ IsStep next.now }
+{
+    matches!(next, Next::Step(_))
+}
+
 // Ends the audit before the line of this number, of which nothing was begun: the report has nothing of its answer.
 pub(crate) fn own_unbegun<R: Source>(number: u32, papers: &mut Papers<R>)
     ensures unstopped { (n : ℕ) → papers.new.verdict ≢ Verdict.Stopped n }
     ensures in_own { (n : ℕ) → papers.new.verdict ≡ Verdict.StoppedInOwn n
         → Consumes (⟦<ReadAhead<R> as Source>⟧.left papers.old.report) (⟦<ReadAhead<R> as Source>⟧.left papers.new.report) []
         × IsAtEnd (⟦<ReadAhead<R> as Source>⟧.left papers.new.report) }
-    ensures open { IsOpen papers.new.verdict }
+    ensures reach { papers.new.reach ≡ papers.old.reach }
+    ensures open { IsUnbegun papers.old.reach number → IsOpen papers.old.reach papers.new.verdict }
 {
     papers.may_reach_more = true;
     let mut buf = [0; 600];
@@ -66,7 +83,14 @@ fn own_done<R: Source, D: TracedExtension>(
     ensures stopped { (n : ℕ) → papers.new.verdict ≡ Verdict.Stopped n → EndsInOwn ⟦<D as Extension>⟧ (audit_of auditor.old)
         (left_of rates.old) desk.old first prefix.now (audit_of auditor.new) desk.new }
     ensures in_own { (n : ℕ) → papers.new.verdict ≢ Verdict.StoppedInOwn n }
+    ensures stops { AtEachSeen (audit_of auditor.old) (λ τ H. (mid : World Place D.View) (text : List ℕ) (more : List (List ℕ)) (steps : List StepRecord)
+        → Asks (by_model D.model) (MayStep τ) (world (place H (left_of rates.old)) (D.view desk.old)) mid first steps TheNext.Say
+        → AreToldOf D.Fails 1 prefix.now steps → D.model.texts mid.desk ≡ text ∷ more → IsPrefixOf prefix.now text
+        → ((papers.new.verdict ≡ Verdict.Stopped number) × IsMet D.view τ (audit_of auditor.new) (left_of rates.new) desk.new mid)
+        ⊎ IsCutShort papers.new.verdict) }
+    ensures reach { papers.new.reach ≡ papers.old.reach }
 {
+    D::laws();
     match ask_all(
         alloc,
         auditor,
@@ -91,6 +115,7 @@ fn step_missed<R: Source>(number: u32, why: Miss, prefix: &[u8], papers: &mut Pa
     ensures report { papers.new.report ≡ papers.old.report }
     ensures unstopped { (n : ℕ) → papers.new.verdict ≢ Verdict.Stopped n }
     ensures in_own { (n : ℕ) → papers.new.verdict ≡ Verdict.StoppedInOwn n → (why ≡ TheMiss.Forged) × (prefix.now ≡ []) }
+    ensures reach { papers.new.reach ≡ papers.old.reach }
 {
     match why {
         Miss::Forged if prefix.is_empty() => papers.end(SideVerdict::StoppedInOwn(number)),
@@ -121,6 +146,7 @@ fn step_in_doubt<R: Source, D: TracedExtension>(
     ensures in_own { (n : ℕ) → papers.new.verdict ≡ Verdict.StoppedInOwn n
         → ((reply : List ℕ) × IsBegunAt event.now reply (left_of rates.now) (audit_of auditor.old) (audit_of auditor.new))
         ⊎ ((prefix.now ≡ []) × AtEachSeen (audit_of auditor.old) (λ τ H. Sees (audit_of auditor.new) H)) }
+    ensures reach { papers.new.reach ≡ papers.old.reach }
 {
     papers.may_reach_more = true;
     let Some(reply) = D::reply_in(step, prefix) else {
@@ -157,6 +183,7 @@ fn own_reached<R: Source, D: TracedExtension>(
     ensures unstopped { (n : ℕ) → papers.new.verdict ≢ Verdict.Stopped n }
     ensures in_own { (n : ℕ) → papers.new.verdict ≡ Verdict.StoppedInOwn n → EndsInOwn ⟦<D as Extension>⟧ (audit_of auditor.old)
         (left_of rates.old) desk.old first prefix.now (audit_of auditor.new) desk.new }
+    ensures reach { papers.new.reach ≡ papers.old.reach }
 {
     let sent = auditor.message_count();
     let transcript = &mut papers.transcript;
@@ -199,8 +226,17 @@ pub(crate) fn own_begun<R: Source, D: TracedExtension>(
         (left_of rates.old) desk.old first prefix.now (audit_of auditor.new) desk.new }
     ensures in_own { (n : ℕ) → papers.new.verdict ≡ Verdict.StoppedInOwn n → EndsInOwn ⟦<D as Extension>⟧ (audit_of auditor.old)
         (left_of rates.old) desk.old first prefix.now (audit_of auditor.new) desk.new }
+    ensures stops { IsOneLine prefix.now → AtEachSeen (audit_of auditor.old) (λ τ H. EachOwnLeft D.model τ (place H (left_of rates.old))
+        (D.view desk.old) first prefix.now
+        (TellsOwnStop D.model papers.new.reach papers.new.verdict (audit_of auditor.new) (D.view desk.new))) }
+    ensures reach { papers.new.reach ≡ papers.old.reach }
 {
+    D::laws();
     if !desk.is_in_doubt(&first, prefix) {
+        // What it would have done changes nothing.
+        if prefix.is_empty() && is_step(&first) {
+            return papers.end(SideVerdict::Stopped(number));
+        }
         return own_done(alloc, number, first, prefix, desk, auditor, rates, papers);
     }
     let Some(steps) = papers.steps_in(number) else {

@@ -1,5 +1,5 @@
 //! The words of the runs that can be judged so: claims, departments, manifests and statements.
-ghost use Rattle.std.specs.Prelude.{◌≡◌, ◌<◌, ◌^◌, IfSome, IfNone, None, false, length, replicate};
+ghost use Rattle.std.specs.Prelude.{◌≡◌, ◌↔◌, ◌<◌, ◌^◌, ℕ, List, ◌∷◌, IfSome, IfNone, IsTrue, None, false, length, replicate};
 ghost use Rattle.bench_base.specs.declared.events.Reply.{Reply as TheReply};
 ghost use Rattle.centre_statement.specs.Desk.{View, fresh, view_of};
 ghost use Rattle.host_departments.specs.Fresh.{KeepsNone as NoDepartments};
@@ -7,7 +7,8 @@ ghost use Rattle.mail_manifest.specs.View.{listing_of};
 ghost use Rattle.nv_model.specs.Moments.{Only};
 ghost use Rattle.script_text.specs.Texts.{text_of};
 ghost use Rattle.spoil_claims.specs.Fresh.{KeepsNone};
-ghost use Rattle.trace_bench.specs.Prefixes.{IsFailure};
+ghost use Rattle.trace_bench.specs.Prefixes.{BeginsFailure, IsFailure};
+ghost use Rattle.trace_bench.specs.Stopping.{IsPrefixOf};
 ghost use Rattle.trace_extensions.specs.ClaimsModel.{Standing, ClaimFails, claims_model, claims_view};
 ghost use Rattle.trace_extensions.specs.DepartmentsModel.{Kept, DepartmentsFail, departments_model, departments_view};
 ghost use Rattle.trace_extensions.specs.ManifestModel.{ManifestView, ManifestFails, manifest_model, manifest_view, no_piece_front};
@@ -122,12 +123,16 @@ fn failure_of(node: &Node, text: &[u8]) -> Option<Reply>
 }
 
 // Whether a failure of this node begins so.
-fn begins_failure(node: &Node, prefix: &[u8]) -> bool {
+fn begins_failure(node: &Node, prefix: &[u8]) -> bool
+    ensures { IsTrue result ↔ BeginsFailure prefix.now node.now }
+{
     begins(&Reply::Power(*node), prefix) || begins(&Reply::Fault(*node), prefix)
 }
 
 // Whether the first text of its answer begins so.
-fn says<D: Extension>(desk: &D, front: &[u8]) -> bool {
+fn says<D: Extension>(desk: &D, front: &[u8]) -> bool
+    ensures never { result ≡ false → (text : List ℕ) (more : List (List ℕ)) → D.texts desk.now ≡ text ∷ more → IsPrefixOf front.now text → ⊥ }
+{
     if desk.count() == 0 {
         return false;
     }

@@ -19,3 +19,14 @@ pub returns-clause-texts : goal.returns-clause-texts
 returns-clause-texts g c = λ same first.
     lines_first (g.D.Extension.texts c.args.desk.now) c.put.new.line c.args.first.now c.put.ensures.text
     (sym c.as_slice.ensures ∙ no_difference (c.as_slice.result.now ≡ c.args.first.now) _ c.ne.result (slice_eq-Decides Decides-eqb c.as_slice.result.now c.args.first.now _ refl) c.ne.ensures c.if-ne.false) first (c.rest_fits.ensures.texts same)
+
+pub returns-then-count-eq0-clause-stops : goal.returns-then-count-eq0-clause-stops
+returns-then-count-eq0-clause-stops g c = λ more told are cut is. absurd (not_empty (g.D.Extension.texts c.args.desk.now) c.args.first.now more are (sym c.count.ensures ∙ c.if-count-eq0.true))
+
+pub returns-then-ne-clause-stops : goal.returns-then-ne-clause-stops
+returns-then-ne-clause-stops g c = λ more told are cut is.
+    absurd (differ_not (c.as_slice.result.now ≡ c.args.first.now) _ c.ne.result (slice_eq-Decides Decides-eqb c.as_slice.result.now c.args.first.now _ refl) c.ne.ensures c.if-ne.true
+    (c.as_slice.ensures ∙ first_text (g.D.Extension.texts c.args.desk.now) c.put.new.line c.args.first.now more c.put.ensures.text are))
+
+pub returns-clause-stops : goal.returns-clause-stops
+returns-clause-stops g c = λ more told are cut is. c.rest_fits.ensures.stops c.args.first.now more told are cut is

@@ -4,9 +4,12 @@ use Rattle.std.proofs.KnownBytes.{Consumes-trans}
 use Rattle.line_runs.specs.Lines.{ended, IsLineIn}
 use Rattle.line_extensions.specs.Desks.{world}
 use Rattle.trace_extensions.specs.Exact.{MayAnswer}
+use Rattle.trace_extensions.specs.FitsStopped.{OwnStopped}
 use Rattle.trace_extensions.specs.Places.{place}
 use Rattle.trace_extensions.specs.Rates.{left_of}
 use Rattle.trace_extensions.proofs.Compared.{cut_line, no_line}
+use Rattle.trace_extensions.proofs.Cuts.{long_front, none_left, whole_line, within_line}
+use Rattle.trace_extensions.proofs.OwnStops.{no_long}
 use Rattle.trace_extensions.proofs.Lines.{take_short, same_line, not_within, not_at_end, not_long}
 use Rattle.trace_extensions.proofs.handler.own_line.Goals as goal
 
@@ -95,3 +98,32 @@ pub returns-in-Line-default-true-clause-texts : goal.returns-in-Line-default-tru
 returns-in-Line-default-true-clause-texts g c = λ fits.
     let read = c.in-Line-default-true.ensures.taken in
     c.own_fits.ensures.texts fits (record { one = read.2.1; short = take_short c.in-Line-default-true.len c.read_line.new.buf read.2.0 })
+
+pub returns-in-Line-default-true-clause-stops : goal.returns-in-Line-default-true-clause-stops
+returns-in-Line-default-true-clause-stops g c = λ τ H texts history sees told report v line K kept begins goes stop.
+    let read = c.in-Line-default-true.ensures.taken in
+    let first = take c.in-Line-default-true.len c.read_line.new.buf in
+    let w = whole_line _ _ told report c.in-Line-default-true.field-1 first read.0 c.in-Line-default-true.field-1-test read.2.2 read.1 in
+    c.own_fits.ensures.stops τ H texts history sees w.0 (record { one = read.2.1; short = take_short c.in-Line-default-true.len c.read_line.new.buf read.2.0 }) w.1 v line K kept begins goes
+    (subst (λ (l : List ℕ). OwnStopped g.D.TracedExtension.model τ (world (place H (left_of c.args.rates.now)) v) line l K kept) w.2 stop)
+
+pub returns-in-Line-default-false-clause-stops : goal.returns-in-Line-default-false-clause-stops
+returns-in-Line-default-false-clause-stops g c = λ τ H texts history sees told report v line K kept begins goes stop.
+    let read = c.in-Line-default-false.ensures.taken in
+    let first = take c.in-Line-default-false.len c.read_line.new.buf in
+    let same = within_line _ _ told report c.in-Line-default-false.field-1 first read.0 c.in-Line-default-false.field-1-test read.2.2 read.1 in
+    c.own_begun.ensures.stops read.2.1 τ H texts history sees v line K kept begins goes
+    (subst (λ (l : List ℕ). OwnStopped g.D.TracedExtension.model τ (world (place H (left_of c.args.rates.now)) v) line l K kept) same stop)
+
+pub returns-in-End-clause-stops : goal.returns-in-End-clause-stops
+returns-in-End-clause-stops g c = λ τ H texts history sees told report v line K kept begins goes stop.
+    let read = c.in-End.ensures.taken in
+    let same = none_left _ _ told report read.0 read.2.0 read.2.1 read.1 in
+    c.own_begun-in-End.ensures.stops tt τ H texts history sees v line K kept begins goes
+    (subst (λ (l : List ℕ). OwnStopped g.D.TracedExtension.model τ (world (place H (left_of c.args.rates.now)) v) line l K kept) same stop)
+
+pub returns-in-Long-clause-stops : goal.returns-in-Long-clause-stops
+returns-in-Long-clause-stops g c = λ τ H texts history sees told report v line K kept begins goes stop.
+    let read = c.in-Long.ensures.taken in
+    let w = long_front _ _ told report read.0 read.1 in
+    absurd (no_long g.D.TracedExtension.model τ (place H (left_of c.args.rates.now)) v line told read.0 w.0 K kept w.1 read.2.0 read.2.1 stop)

@@ -1,9 +1,11 @@
 use Rattle.std.proofs.Common.{inl, inr}
 use Rattle.trace_bench.specs.Seeing.{audit_of}
+use Rattle.line_runs.specs.declared.status.Status.TheVariants as status
 use Rattle.trace_runs.specs.declared.verdict.Ending.TheVariants as ends
 use Rattle.trace_extensions.proofs.Stopped.{may_have_stopped}
 use Rattle.trace_extensions.proofs.Ran.{may_have_ended}
 use Rattle.trace_extensions.proofs.RunFits.{complete_open, complete_whole, complete_stopped, fitting, never_lawful}
+use Rattle.trace_extensions.proofs.StoppedFits.{end_stops, end_own_stops, line_stops, line_own_stops, cut_stops, cut_own_stops}
 use Rattle.trace_extensions.proofs.run.judge_side.Goals as goal
 
 pub returns-in-Run-Done-clause-sound : goal.returns-in-Run-Done-clause-sound
@@ -52,13 +54,13 @@ returns-in-Run-TooLong-clause-complete g c =
 pub returns-clause-complete : goal.returns-clause-complete
 returns-clause-complete g c =
     complete_stopped g.D.Extension g.D.TracedExtension.view g.D.TracedExtension.model c.laws.ensures.modelled g.met.D.Extension.alone _ _ _ _ _ _ (audit_of c.args.auditor.now) c.args.rates.items c.new-left.ensures
-    (λ H between. between.alike (audit_of c.begin.new.self) (c.begin.ensures.sees between.ledger between.sees)) c.unlawful.result c.in-Stopped.ensures.ran c.unlawful.ensures.open
+    (λ H between. between.alike (audit_of c.begin.new.self) (c.begin.ensures.sees between.ledger between.sees)) c.unlawful.result c.in-Stopped.ensures.ran c.unlawful.ensures.only
 
 pub returns-in-Run-ReadFault-clause-complete : goal.returns-in-Run-ReadFault-clause-complete
-returns-in-Run-ReadFault-clause-complete g c = complete_open g.D.Extension g.D.TracedExtension.view g.D.TracedExtension.model c.laws.ensures.modelled g.met.D.Extension.alone _ _ c.args.rates.items (g.D.TracedExtension.view c.args.desk.now) _ (audit_of c.args.auditor.now) _ _ tt
+returns-in-Run-ReadFault-clause-complete g c = complete_open g.D.Extension g.D.TracedExtension.view g.D.TracedExtension.model c.laws.ensures.modelled g.met.D.Extension.alone _ _ c.args.rates.items (g.D.TracedExtension.view c.args.desk.now) _ (audit_of c.args.auditor.now) _ _ _ tt
 
 pub returns-in-Run-Words-clause-complete : goal.returns-in-Run-Words-clause-complete
-returns-in-Run-Words-clause-complete g c = complete_open g.D.Extension g.D.TracedExtension.view g.D.TracedExtension.model c.laws.ensures.modelled g.met.D.Extension.alone _ _ c.args.rates.items (g.D.TracedExtension.view c.args.desk.now) _ (audit_of c.args.auditor.now) _ _ tt
+returns-in-Run-Words-clause-complete g c = complete_open g.D.Extension g.D.TracedExtension.view g.D.TracedExtension.model c.laws.ensures.modelled g.met.D.Extension.alone _ _ c.args.rates.items (g.D.TracedExtension.view c.args.desk.now) _ (audit_of c.args.auditor.now) _ _ _ tt
 
 pub returns-in-Run-Done-clause-fits : goal.returns-in-Run-Done-clause-fits
 returns-in-Run-Done-clause-fits g c =
@@ -80,3 +82,55 @@ returns-in-Run-ReadFault-clause-fits g c = never_lawful g.D.Extension g.D.Traced
 
 pub returns-in-Run-Words-clause-fits : goal.returns-in-Run-Words-clause-fits
 returns-in-Run-Words-clause-fits g c = never_lawful g.D.Extension g.D.TracedExtension.view g.D.TracedExtension.model c.laws.ensures.modelled g.met.D.Extension.alone _ _ c.args.rates.items (g.D.TracedExtension.view c.args.desk.now) _ (audit_of c.args.auditor.now) _ _ (λ end is. absurd (cc (is)))
+
+pub returns-in-Run-Done-clause-stops : goal.returns-in-Run-Done-clause-stops
+returns-in-Run-Done-clause-stops g c =
+    end_stops g.D.Extension g.D.TracedExtension.view g.D.TracedExtension.model c.laws.ensures.modelled g.met.D.Extension.alone _ _ _ _ _ _ (audit_of c.args.auditor.now) c.args.rates.items c.new-left.ensures
+    (λ H between. between.alike (audit_of c.begin.new.self) (c.begin.ensures.sees between.ledger between.sees)) c.over.result status.Done tt (rw c.in-Run-Done.field-0-is at c.in-Run-Done.ensures.ran)
+
+pub returns-in-Run-Done-clause-own_stops : goal.returns-in-Run-Done-clause-own_stops
+returns-in-Run-Done-clause-own_stops g c =
+    end_own_stops g.D.Extension g.D.TracedExtension.view g.D.TracedExtension.model c.laws.ensures.modelled g.met.D.Extension.alone _ _ _ _ _ _ (audit_of c.args.auditor.now) c.args.rates.items c.new-left.ensures
+    (λ H between. between.alike (audit_of c.begin.new.self) (c.begin.ensures.sees between.ledger between.sees)) c.over.result status.Done tt (rw c.in-Run-Done.field-0-is at c.in-Run-Done.ensures.ran)
+
+pub returns-in-Run-Script-clause-stops : goal.returns-in-Run-Script-clause-stops
+returns-in-Run-Script-clause-stops g c =
+    end_stops g.D.Extension g.D.TracedExtension.view g.D.TracedExtension.model c.laws.ensures.modelled g.met.D.Extension.alone _ _ _ _ _ _ (audit_of c.args.auditor.now) c.args.rates.items c.new-left.ensures
+    (λ H between. between.alike (audit_of c.begin.new.self) (c.begin.ensures.sees between.ledger between.sees)) c.over-in-Run-Script.result (status.Script c.in-Run-Script.line) tt (rw c.in-Run-Script.field-0-is at c.in-Run-Script.ensures.ran)
+
+pub returns-in-Run-Script-clause-own_stops : goal.returns-in-Run-Script-clause-own_stops
+returns-in-Run-Script-clause-own_stops g c =
+    end_own_stops g.D.Extension g.D.TracedExtension.view g.D.TracedExtension.model c.laws.ensures.modelled g.met.D.Extension.alone _ _ _ _ _ _ (audit_of c.args.auditor.now) c.args.rates.items c.new-left.ensures
+    (λ H between. between.alike (audit_of c.begin.new.self) (c.begin.ensures.sees between.ledger between.sees)) c.over-in-Run-Script.result (status.Script c.in-Run-Script.line) tt (rw c.in-Run-Script.field-0-is at c.in-Run-Script.ensures.ran)
+
+pub returns-in-Run-TooLong-clause-stops : goal.returns-in-Run-TooLong-clause-stops
+returns-in-Run-TooLong-clause-stops g c =
+    end_stops g.D.Extension g.D.TracedExtension.view g.D.TracedExtension.model c.laws.ensures.modelled g.met.D.Extension.alone _ _ _ _ _ _ (audit_of c.args.auditor.now) c.args.rates.items c.new-left.ensures
+    (λ H between. between.alike (audit_of c.begin.new.self) (c.begin.ensures.sees between.ledger between.sees)) c.over-in-Run-TooLong.result status.TooLong tt (rw c.in-Run-TooLong.field-0-is at c.in-Run-TooLong.ensures.ran)
+
+pub returns-in-Run-TooLong-clause-own_stops : goal.returns-in-Run-TooLong-clause-own_stops
+returns-in-Run-TooLong-clause-own_stops g c =
+    end_own_stops g.D.Extension g.D.TracedExtension.view g.D.TracedExtension.model c.laws.ensures.modelled g.met.D.Extension.alone _ _ _ _ _ _ (audit_of c.args.auditor.now) c.args.rates.items c.new-left.ensures
+    (λ H between. between.alike (audit_of c.begin.new.self) (c.begin.ensures.sees between.ledger between.sees)) c.over-in-Run-TooLong.result status.TooLong tt (rw c.in-Run-TooLong.field-0-is at c.in-Run-TooLong.ensures.ran)
+
+pub returns-clause-stops : goal.returns-clause-stops
+returns-clause-stops g c =
+    line_stops g.D.Extension g.D.TracedExtension.view g.D.TracedExtension.model c.laws.ensures.modelled g.met.D.Extension.alone _ _ _ _ _ _ (audit_of c.args.auditor.now) c.args.rates.items c.new-left.ensures
+    (λ H between. between.alike (audit_of c.begin.new.self) (c.begin.ensures.sees between.ledger between.sees)) c.unlawful.result c.in-Stopped.ensures.ran c.unlawful.ensures.only
+
+pub returns-clause-own_stops : goal.returns-clause-own_stops
+returns-clause-own_stops g c =
+    line_own_stops g.D.Extension g.D.TracedExtension.view g.D.TracedExtension.model c.laws.ensures.modelled g.met.D.Extension.alone _ _ _ _ _ _ (audit_of c.args.auditor.now) c.args.rates.items c.new-left.ensures
+    (λ H between. between.alike (audit_of c.begin.new.self) (c.begin.ensures.sees between.ledger between.sees)) c.unlawful.result c.in-Stopped.ensures.ran c.unlawful.ensures.only
+
+pub returns-in-Run-ReadFault-clause-stops : goal.returns-in-Run-ReadFault-clause-stops
+returns-in-Run-ReadFault-clause-stops g c = cut_stops g.D.Extension g.D.TracedExtension.view g.D.TracedExtension.model c.laws.ensures.modelled g.met.D.Extension.alone _ _ c.args.rates.items (g.D.TracedExtension.view c.args.desk.now) _ (audit_of c.args.auditor.now) _ _ _ tt
+
+pub returns-in-Run-ReadFault-clause-own_stops : goal.returns-in-Run-ReadFault-clause-own_stops
+returns-in-Run-ReadFault-clause-own_stops g c = cut_own_stops g.D.Extension g.D.TracedExtension.view g.D.TracedExtension.model c.laws.ensures.modelled g.met.D.Extension.alone _ _ c.args.rates.items (g.D.TracedExtension.view c.args.desk.now) _ (audit_of c.args.auditor.now) _ _ _ tt
+
+pub returns-in-Run-Words-clause-stops : goal.returns-in-Run-Words-clause-stops
+returns-in-Run-Words-clause-stops g c = cut_stops g.D.Extension g.D.TracedExtension.view g.D.TracedExtension.model c.laws.ensures.modelled g.met.D.Extension.alone _ _ c.args.rates.items (g.D.TracedExtension.view c.args.desk.now) _ (audit_of c.args.auditor.now) _ _ _ tt
+
+pub returns-in-Run-Words-clause-own_stops : goal.returns-in-Run-Words-clause-own_stops
+returns-in-Run-Words-clause-own_stops g c = cut_own_stops g.D.Extension g.D.TracedExtension.view g.D.TracedExtension.model c.laws.ensures.modelled g.met.D.Extension.alone _ _ c.args.rates.items (g.D.TracedExtension.view c.args.desk.now) _ (audit_of c.args.auditor.now) _ _ _ tt

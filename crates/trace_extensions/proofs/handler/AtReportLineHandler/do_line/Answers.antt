@@ -6,7 +6,7 @@ use Rattle.script_text.specs.Grammar.{Spells}
 use Rattle.script_words.specs.declared.word.LineFault.{LineFault}
 use Rattle.line_extensions.specs.Events.{IsLineOf}
 use Rattle.trace_bench.specs.Seeing.{audit_of}
-use Rattle.trace_extensions.specs.Fits.{IsOpen}
+use Rattle.trace_extensions.specs.Fits.{IsCutShort, IsOpen}
 use Rattle.trace_extensions.specs.Rates.{left_of}
 use Rattle.trace_extensions.proofs.Lined.{skipped, ends_without, untaken, unbegun, answered, own_stopped, heard}
 use Rattle.trace_extensions.proofs.handler.AtReportLineHandler.do_line.Goals as goal
@@ -16,45 +16,48 @@ read_as line (Ok x) e is found = let same : x ≡ e = cc in subst (λ (y : Event
 read_as line (Err fault) e is found = absurd (cc is)
 
 pub returns-then-is_skipped-clause-done : goal.returns-then-is_skipped-clause-done
-returns-then-is_skipped-clause-done g c = skipped g.D.Extension g.D.TracedExtension.view g.D.TracedExtension.model c.laws.ensures.modelled c.laws.ensures.determined g.met.D.Extension.alone c.args.number c.args.line.now _ (g.K.Sink.taken c.args._report.now) (c.is_skipped.ensures.0 c.if-is_skipped.true)
+returns-then-is_skipped-clause-done g c = skipped g.D.Extension g.D.TracedExtension.view g.D.TracedExtension.model c.laws.ensures.modelled c.laws.ensures.determined c.laws.ensures.alike g.met.D.Extension.alone c.args.number c.args.line.now _ (g.K.Sink.taken c.args._report.now) (c.is_skipped.ensures.0 c.if-is_skipped.true)
 
 pub returns-then-is_unbegun-clause-done : goal.returns-then-is_unbegun-clause-done
-returns-then-is_unbegun-clause-done g c = unbegun g.D.Extension g.D.TracedExtension.view g.D.TracedExtension.model c.laws.ensures.modelled c.laws.ensures.determined g.met.D.Extension.alone c.args.number c.args.line.now _ _ (g.K.Sink.taken c.args._report.now) refl refl c.own_unbegun.ensures.open c.own_unbegun.ensures.unstopped c.own_unbegun.ensures.in_own
+returns-then-is_unbegun-clause-done g c = unbegun g.D.Extension g.D.TracedExtension.view g.D.TracedExtension.model c.laws.ensures.modelled c.laws.ensures.determined c.laws.ensures.alike g.met.D.Extension.alone c.args.number c.args.line.now _ _ (g.K.Sink.taken c.args._report.now) refl refl c.own_unbegun.ensures.reach
+    (subst (λ r. IsOpen r c.own_unbegun.new.papers.verdict) (sym c.own_unbegun.ensures.reach) (c.own_unbegun.ensures.open (c.is_unbegun.ensures.0 c.if-is_unbegun.true))) c.own_unbegun.ensures.unstopped c.own_unbegun.ensures.in_own
 
 pub returns-in-Err-clause-done : goal.returns-in-Err-clause-done
-returns-in-Err-clause-done g c = ends_without g.D.Extension g.D.TracedExtension.view g.D.TracedExtension.model c.laws.ensures.modelled c.laws.ensures.determined g.met.D.Extension.alone c.args.number c.args.line.now _ _ (g.K.Sink.taken c.args._report.now) refl (subst (λ v. IsOpen v) (sym c.end.ensures.verdict) tt) (λ n is. absurd (cc (c.end.ensures.verdict, is)))
+returns-in-Err-clause-done g c = ends_without g.D.Extension g.D.TracedExtension.view g.D.TracedExtension.model c.laws.ensures.modelled c.laws.ensures.determined c.laws.ensures.alike g.met.D.Extension.alone c.args.number c.args.line.now _ _ (g.K.Sink.taken c.args._report.now) refl c.end.ensures.reach (subst (λ v. IsCutShort v) (sym c.end.ensures.verdict) tt) (λ n is. absurd (cc (c.end.ensures.verdict, is)))
     (λ n is. absurd (cc (c.end.ensures.verdict, is)))
 
 pub returns-then-own_line-clause-done : goal.returns-then-own_line-clause-done
 returns-then-own_line-clause-done g c =
     let w = rw c.in-Ok-Some.field-0-is at c.in-Ok-Some.ensures.own in
-    answered g.D.Extension g.D.TracedExtension.view g.D.TracedExtension.model c.laws.ensures.modelled c.laws.ensures.determined g.met.D.Extension.alone c.args.number c.args.line.now (audit_of c.args.auditor.now) (audit_of c.own_line.new.auditor) (left_of c.args.rates.now) (left_of c.own_line.new.rates) c.args.desk.now
-    c.begin-begun.new.self c.own_line.new.desk _ _ _ _ (g.K.Sink.taken c.args._report.now) w.0 c.in-Ok-Some.first g.D.TracedExtension.Fails (λ τ old new own steps did. c.laws.ensures.tells τ old new own steps did) c.own_line.ensures.kept w.1 w.2 (λ is. true≢false (sym (c.is_stop.ensures.1 is) ∙ c.if-is_stop.false))
-    (λ τ H texts history sees new text more told steps may next. rw c.if-own_line.true at c.own_line.ensures.only τ H texts history sees new text more told steps may next) (c.own_line.ensures.asked c.if-own_line.true)
+    answered g.D.Extension g.D.TracedExtension.view g.D.TracedExtension.model c.laws.ensures.modelled c.laws.ensures.determined c.laws.ensures.alike g.met.D.Extension.alone c.args.number c.args.line.now (audit_of c.args.auditor.now) (audit_of c.own_line.new.auditor) (left_of c.args.rates.now) (left_of c.own_line.new.rates) c.args.desk.now
+    c.begin-begun.new.self c.own_line.new.desk _ _ _ _ _ _ (g.K.Sink.taken c.args._report.now) w.0 c.in-Ok-Some.first g.D.TracedExtension.Fails (λ τ old new own steps did. c.laws.ensures.tells τ old new own steps did) c.own_line.ensures.kept w.1 w.2 (λ is. true≢false (sym (c.is_stop.ensures.1 is) ∙ c.if-is_stop.false)) c.own_line.ensures.reach
+    (λ τ H texts history sees new text more told steps may next. rw c.if-own_line.true at c.own_line.ensures.only τ H texts history sees new text more told steps may next)
+    (λ τ H texts history sees told report v x L kept begins goes stop. rw c.if-own_line.true at c.own_line.ensures.stops τ H texts history sees told report v x L kept begins goes stop) (c.own_line.ensures.asked c.if-own_line.true)
     (c.own_line.ensures.fits c.if-own_line.true) (c.own_line.ensures.texts c.if-own_line.true)
 
 pub returns-else-own_line-clause-done : goal.returns-else-own_line-clause-done
 returns-else-own_line-clause-done g c =
     let w = rw c.in-Ok-Some.field-0-is at c.in-Ok-Some.ensures.own in
-    own_stopped g.D.Extension g.D.TracedExtension.view g.D.TracedExtension.model c.laws.ensures.modelled c.laws.ensures.determined g.met.D.Extension.alone c.args.number c.args.line.now (audit_of c.args.auditor.now) (audit_of c.own_line.new.auditor) (left_of c.args.rates.now) (left_of c.own_line.new.rates) c.args.desk.now
-    c.begin-begun.new.self c.own_line.new.desk _ _ _ _ (g.K.Sink.taken c.args._report.now) w.0 c.in-Ok-Some.first g.D.TracedExtension.Fails (λ τ old new own steps did. c.laws.ensures.tells τ old new own steps did) c.own_line.ensures.kept w.1 w.2 (λ is. true≢false (sym (c.is_stop.ensures.1 is) ∙ c.if-is_stop.false))
+    own_stopped g.D.Extension g.D.TracedExtension.view g.D.TracedExtension.model c.laws.ensures.modelled c.laws.ensures.determined c.laws.ensures.alike g.met.D.Extension.alone c.args.number c.args.line.now (audit_of c.args.auditor.now) (audit_of c.own_line.new.auditor) (left_of c.args.rates.now) (left_of c.own_line.new.rates) c.args.desk.now
+    c.begin-begun.new.self c.own_line.new.desk _ _ _ _ _ _ (g.K.Sink.taken c.args._report.now) w.0 c.in-Ok-Some.first g.D.TracedExtension.Fails (λ τ old new own steps did. c.laws.ensures.tells τ old new own steps did) c.own_line.ensures.kept w.1 w.2 (λ is. true≢false (sym (c.is_stop.ensures.1 is) ∙ c.if-is_stop.false)) c.own_line.ensures.reach
     (λ τ H texts history sees new text more told steps may next. rw c.if-own_line.false at c.own_line.ensures.only τ H texts history sees new text more told steps may next)
+    (λ τ H texts history sees told report v x L kept begins goes stop. rw c.if-own_line.false at c.own_line.ensures.stops τ H texts history sees told report v x L kept begins goes stop)
     (c.own_line.ensures.stopped c.if-own_line.false) (c.own_line.ensures.in_own c.if-own_line.false)
 
 pub returns-in-Some-clause-done : goal.returns-in-Some-clause-done
 returns-in-Some-clause-done g c =
     let w = rw c.in-Ok-None.field-0-is at c.in-Ok-None.ensures.passes in
-    heard g.D.Extension g.D.TracedExtension.view g.D.TracedExtension.model c.laws.ensures.modelled c.laws.ensures.determined g.met.D.Extension.alone c.args.number c.args.line.now g.D.Heard.Tell.IsOf c.in-Some.answered.told (audit_of c.args.auditor.now) (audit_of c.answer.new.auditor) (left_of c.args.rates.now) (left_of c.answer.new.rates) c.args.desk.now
-    c.see.new.self _ _ _ _ (g.K.Sink.taken c.args._report.now) c.in-Ok.event (take c.in-Some.answered.len c.answer.new.buf) c.ended_by.result c.in-Some.ensures.one c.answer.ensures.kept
+    heard g.D.Extension g.D.TracedExtension.view g.D.TracedExtension.model c.laws.ensures.modelled c.laws.ensures.determined c.laws.ensures.alike g.met.D.Extension.alone c.args.number c.args.line.now g.D.Heard.Tell.IsOf c.in-Some.answered.told (audit_of c.args.auditor.now) (audit_of c.answer.new.auditor) (left_of c.args.rates.now) (left_of c.answer.new.rates) c.args.desk.now
+    c.see.new.self _ _ _ _ _ _ (g.K.Sink.taken c.args._report.now) c.in-Ok.event (take c.in-Some.answered.len c.answer.new.buf) c.ended_by.result c.in-Some.ensures.one c.answer.ensures.reach c.in-Some.ensures.unstopped c.answer.ensures.kept
     (read_as c.args.line.now c.read_event.result c.in-Ok.event c.in-Ok.is c.read_event.ensures.found) w.0 (λ turn is. subst (λ x. g.D.Extension.Sees x c.in-Ok.event turn c.see.new.self) w.2 (c.see.ensures turn is)) c.in-Some.ensures.heard.0 c.in-Some.ensures.heard.1
     c.ended_by.ensures.goes_on c.ended_by.ensures.done
 
 pub returns-in-None-clause-done : goal.returns-in-None-clause-done
 returns-in-None-clause-done g c =
     let w = rw c.in-Ok-None.field-0-is at c.in-Ok-None.ensures.passes in
-    untaken g.D.Extension g.D.TracedExtension.view g.D.TracedExtension.model c.laws.ensures.modelled c.laws.ensures.determined g.met.D.Extension.alone c.args.number c.args.line.now _ _ (g.K.Sink.taken c.args._report.now) c.in-Ok.event c.answer.ensures.kept
-    (read_as c.args.line.now c.read_event.result c.in-Ok.event c.in-Ok.is c.read_event.ensures.found) w.0 w.2 c.in-None.ensures.begun c.in-None.ensures.in_own c.in-None.ensures.missed
+    untaken g.D.Extension g.D.TracedExtension.view g.D.TracedExtension.model c.laws.ensures.modelled c.laws.ensures.determined c.laws.ensures.alike g.met.D.Extension.alone c.args.number c.args.line.now _ _ (g.K.Sink.taken c.args._report.now) c.in-Ok.event c.args.number c.answer.ensures.kept c.answer.ensures.reach
+    (read_as c.args.line.now c.read_event.result c.in-Ok.event c.in-Ok.is c.read_event.ensures.found) w.0 w.2 c.in-None.ensures.begun c.in-None.ensures.in_own c.in-None.ensures.missed c.in-None.ensures.stops
 
 pub returns-then-is_stop-clause-done : goal.returns-then-is_stop-clause-done
-returns-then-is_stop-clause-done g c = ends_without g.D.Extension g.D.TracedExtension.view g.D.TracedExtension.model c.laws.ensures.modelled c.laws.ensures.determined g.met.D.Extension.alone c.args.number c.args.line.now _ _ (g.K.Sink.taken c.args._report.now) refl (subst (λ v. IsOpen v) (sym c.end-then-is_stop.ensures.verdict) tt)
+returns-then-is_stop-clause-done g c = ends_without g.D.Extension g.D.TracedExtension.view g.D.TracedExtension.model c.laws.ensures.modelled c.laws.ensures.determined c.laws.ensures.alike g.met.D.Extension.alone c.args.number c.args.line.now _ _ (g.K.Sink.taken c.args._report.now) refl c.end-then-is_stop.ensures.reach (subst (λ v. IsCutShort v) (sym c.end-then-is_stop.ensures.verdict) tt)
     (λ n is. absurd (cc (c.end-then-is_stop.ensures.verdict, is))) (λ n is. absurd (cc (c.end-then-is_stop.ensures.verdict, is)))
