@@ -29,7 +29,7 @@ module _ {K T : Type 0} (k : Ghosts K T) {V : Type 0} (view : K → V) (m : Mode
   all_of [] = []
   all_of (b ∷ ys) = of_model b ∷ all_of ys
 
-  line_same : (b : SideStep k.Own) → side_line (of_model b) ≡ side_line b
+  pub line_same : (b : SideStep k.Own) → side_line (of_model b) ≡ side_line b
   line_same (Plain d) = refl
   line_same (Own line own steps texts) = refl
   line_same (Broken line own steps) = refl
@@ -108,7 +108,7 @@ module _ {K T : Type 0} (k : Ghosts K T) {V : Type 0} (view : K → V) (m : Mode
     no_stop old new next [] asks is = cc (asks.0, is)
     no_stop old new next (d ∷ steps) asks is = cc (asks.2.asks, is)
 
-    asks_of : (old new : World B K) (next : Next) (steps : List StepRecord) → Asks k Steps old new next steps Say → Asks (by_model m) Steps (seen_by old) (seen_by new) next steps Say
+    pub asks_of : (old new : World B K) (next : Next) (steps : List StepRecord) → Asks k Steps old new next steps Say → Asks (by_model m) Steps (seen_by old) (seen_by new) next steps Say
     asks_of old new next [] asks = (asks.0, ap (λ (w : World B K). seen_by w) asks.1)
     asks_of old new next (d ∷ steps) asks = (
       seen_by asks.0,
@@ -143,10 +143,10 @@ module _ {K T : Type 0} (k : Ghosts K T) {V : Type 0} (view : K → V) (m : Mode
     does_one_of old new (Broken line own steps) is (inr end) did = absurd end
 
     -- each step is what it says, and goes on or ends
-    abbrev IsGood : SideStep k.Own → Type 0
+    abbrev pub IsGood : SideStep k.Own → Type 0
     IsGood b = SideIsOf k.IsOwn b × (SideGoesOn b ⊎ SideIsEnd b)
 
-    does_of : (old new : World B K) (ys : List (SideStep k.Own)) → AllByRecursion IsGood ys → Does k Steps old new ys → Does (by_model m) Steps (seen_by old) (seen_by new) (all_of ys)
+    pub does_of : (old new : World B K) (ys : List (SideStep k.Own)) → AllByRecursion IsGood ys → Does k Steps old new ys → Does (by_model m) Steps (seen_by old) (seen_by new) (all_of ys)
     does_of old new [] good did = ap (λ (w : World B K). seen_by w) did
     does_of old new (b ∷ ys) good did = (seen_by did.0, does_one_of old did.0 b good.0.0 good.0.1 did.1, does_of did.0 new ys good.1 did.2)
 

@@ -1,13 +1,17 @@
 -- Texts of an answer that were compared with lines of the report.
-use Rattle.std.proofs.Common.{◌≡◌, ℕ, ◌+◌, ◌≤◌, List, [], ◌∷◌, ◌++◌, length, take, flat_map, Bool, true, false, Option, Some, sym, ◌∙◌, ap, subst, arith, append_assoc, append-nil}
+use Rattle.std.proofs.Common.{◌≡◌, inl, inr, ℕ, zero, suc, ◌+◌, ◌-◌, ◌≤◌, List, [], ◌∷◌, ◌++◌, length, take, drop, flat_map, Bool, true, false, Option, Some, refl, sym, ◌∙◌, ap, subst, arith, append_assoc, append-nil}
 use Rattle.std.specs.Prelude.{slice_get}
 use Rattle.std.specs.Io.KnownBytes.{Consumes, IsAtEnd}
 use Rattle.std.proofs.KnownBytes.{Consumes-nil, Consumes-trans}
-use Rattle.std.proofs.lemmas.List.{take_all, length-append}
-use Rattle.std.proofs.Math.Seq.{take-append_seam}
+use Rattle.std.proofs.lemmas.List.{take_all}
+use Rattle.std.proofs.Math.Seq.{drop-append_seam}
+use Rattle.std.specs.List.{AllByRecursion}
 use Rattle.line_runs.specs.Lines.{ended, IsLineIn}
-use Rattle.line_extensions.proofs.Texts.{more_texts, texts_cut}
+use Rattle.line_extensions.proofs.Texts.{more_texts}
 use Rattle.trace_bench.specs.Stopping.{IsPrefixOf}
+use Rattle.trace_extensions.specs.Fits.{IsText}
+use Rattle.trace_extensions.specs.FitsStopped.{IsCutOf}
+use Rattle.trace_extensions.proofs.Texts.{AreLines}
 
 -- the texts up to number n from the second on are what was read
 pub record ReadTo (texts : List (List ℕ)) (n : ℕ) (a b : Option (List ℕ)) : Type 0 where
@@ -41,20 +45,36 @@ cut_line a b true line bytes is inside read = absurd (cc is)
 pub no_line : (a b : Option (List ℕ)) (bytes : List ℕ) → bytes ≡ [] → Consumes a b bytes → IsAtEnd b → Consumes a b [] × IsAtEnd b
 no_line a b bytes none read end = (subst (λ (l : List ℕ). Consumes a b l) none read, end)
 
--- the texts before one, and bytes with which it begins
-pub text_begins : (texts : List (List ℕ)) (k : ℕ) (t part : List ℕ) → slice_get texts k ≡ Some t → IsPrefixOf part t → IsPrefixOf (flat_map ended (take k texts) ++ part) (flat_map ended texts)
-text_begins texts k t part at (m, is) =
-    let line : ended t ≡ part ++ (m ++ 10 ∷ []) = ap (λ (l : List ℕ). ended l) is ∙ append_assoc part m (10 ∷ []) in
-    let long = ap (λ (l : List ℕ). length l) line ∙ length-append part (m ++ 10 ∷ []) in
-    let cut = texts_cut texts k (length part) t at (omega (arith, long, length-append m (10 ∷ []))) in
-    let same = ap (λ (l : List ℕ). take (length part) l) line ∙ take-append_seam part (m ++ 10 ∷ []) in
-    (cut.0, cut.1 ∙ ap (λ (l : List ℕ). (flat_map ended (take k texts) ++ l) ++ cut.0) same)
+-- bytes that begin a text, after those before it
+cut_at : (texts : List (List ℕ)) (k : ℕ) (t part : List ℕ) → slice_get texts k ≡ Some t → AllByRecursion IsText (take k texts) → IsPrefixOf part t → IsText part → IsCutOf (flat_map ended (take k texts) ++ part) texts
+cut_at [] k t part at each begins is = absurd (cc at)
+cut_at (x ∷ texts) zero t part at each begins is = let same : t ≡ x = cc at in inl (subst (λ (l : List ℕ). IsPrefixOf part l) same begins, is)
+cut_at (x ∷ texts) (suc k) t part at each begins is =
+    inr (flat_map ended (take k texts) ++ part, append_assoc (ended x) (flat_map ended (take k texts)) part, each.0, cut_at texts k t part at each.1 begins is)
 
-pub read_within : (texts : List (List ℕ)) (n : ℕ) (t line part : List ℕ) (a b c : Option (List ℕ)) → slice_get texts n ≡ Some t → line ≡ t → ReadTo texts n a b → IsPrefixOf part line → Consumes b c part
-    → (rest : List ℕ) × IsPrefixOf (flat_map ended (take 1 texts) ++ rest) (flat_map ended texts) × Consumes a c rest
-read_within texts n t line part a b c at same so begins more =
-    let w = text_begins texts n t part at (subst (λ (l : List ℕ). IsPrefixOf part l) same begins) in (
+-- they begin the first one
+pub cut_begins : (texts : List (List ℕ)) (t part : List ℕ) → slice_get texts 0 ≡ Some t → IsPrefixOf part t → IsText part → IsCutOf part texts
+cut_begins texts t part at begins is = cut_at texts 0 t part at tt begins is
+
+-- the first one was read, and they end within those after it
+pub cut_behind : (texts : List (List ℕ)) (t line rest : List ℕ) → slice_get texts 0 ≡ Some t → t ≡ line → IsText line → IsCutOf rest (drop 1 texts) → IsCutOf (ended line ++ rest) texts
+cut_behind [] t line rest at same is cut = absurd (cc at)
+cut_behind (x ∷ texts) t line rest at same is cut =
+    let first : line ≡ x = cc (at, same) in
+    inr (rest, ap (λ (l : List ℕ). ended l ++ rest) first, subst (λ (l : List ℕ). IsText l) first is, cut)
+
+pub same_rest : (front a b : List ℕ) → front ++ a ≡ front ++ b → a ≡ b
+same_rest front a b is = sym (drop-append_seam front a) ∙ ap (λ (l : List ℕ). drop (length front) l) is ∙ drop-append_seam front b
+
+pub read_within : (texts : List (List ℕ)) (n : ℕ) (t line part : List ℕ) (a b c : Option (List ℕ)) → slice_get texts n ≡ Some t → line ≡ t → 1 ≤ n → AreLines texts n → ReadTo texts n a b → IsPrefixOf part line → IsText part → Consumes b c part
+    → (rest : List ℕ) × IsCutOf rest (drop 1 texts) × Consumes a c rest
+read_within [] n t line part a b c at same some lines so begins is more = absurd (cc at)
+read_within (x ∷ texts) zero t line part a b c at same some lines so begins is more = absurd (omega (arith, some))
+read_within (x ∷ texts) (suc k) t line part a b c at same some lines so begins is more =
+    let before : suc k - 1 ≡ k = omega arith in
+    let rest_is : so.rest ≡ flat_map ended (take k texts) = sym (same_rest (ended x) (flat_map ended (take k texts)) so.rest (so.is ∙ ap (λ (l : List ℕ). l ++ so.rest) (append-nil (ended x)))) in
+    let cut = cut_at texts k t part at (subst (λ (j : ℕ). AllByRecursion IsText (take j texts)) before (lines x texts refl)) (subst (λ (l : List ℕ). IsPrefixOf part l) same begins) is in (
       so.rest ++ part,
-      (w.0, w.1 ∙ ap (λ (l : List ℕ). l ++ w.0) (ap (λ (l : List ℕ). l ++ part) so.is ∙ append_assoc (flat_map ended (take 1 texts)) so.rest part)),
+      subst (λ (l : List ℕ). IsCutOf (l ++ part) texts) (sym rest_is) cut,
       Consumes-trans a b c so.rest part so.read more,
     )

@@ -50,7 +50,7 @@ module _ (a b : Option (List ℕ)) (told : List ℕ) (has : a ≡ Some told) whe
   at_end left (Some x) is end = sym (same_Some x left is) ∙ end
 
   -- all of it
-  all_read : (bytes : List ℕ) → Consumes a b bytes → IsAtEnd b → told ≡ bytes
+  pub all_read : (bytes : List ℕ) → Consumes a b bytes → IsAtEnd b → told ≡ bytes
   all_read bytes took end =
       let w = known a b bytes told took has in
       w.2 ∙ ap (λ (l : List ℕ). bytes ++ l) (at_end w.0 b w.1 end) ∙ append-nil bytes

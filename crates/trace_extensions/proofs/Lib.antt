@@ -11,6 +11,7 @@ pub mod DepartmentsModel
 pub mod EventStops
 pub mod Forgetting
 pub mod Idle
+pub mod Known
 pub mod Lined
 pub mod Lines
 pub mod ManifestModel
@@ -29,6 +30,7 @@ pub mod SameStep
 pub mod StatementModel
 pub mod Stopped
 pub mod StoppedFits
+pub mod StoppedRuns
 pub mod StopWalk
 pub mod Sure
 pub mod Texts

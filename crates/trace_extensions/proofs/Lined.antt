@@ -24,19 +24,19 @@ use Rattle.line_extensions.specs.Wants.{IsAlone, IsEvent}
 use Rattle.line_extensions.specs.declared.{extension.Extension.Ghosts, extension.Next.Next, extension.Next.TheVariants.Say, extension.Next.TheVariants.Stop}
 use Rattle.script_replay.specs.Trace.{ledger_by}
 use Rattle.trace_bench.specs.Seeing.{Audit, Sees, keeps}
-use Rattle.trace_bench.specs.Stopping.{IsPrefixOf}
 use Rattle.trace_runs.specs.Between.{SeesBetween}
 use Rattle.trace_runs.specs.Fitting.{BeginsTold}
 use Rattle.trace_runs.specs.Runs.{StopLeaves}
 use Rattle.trace_extensions.specs.Exact.{EachReply, HasNext, MayBe, EachMayBe, MayAnswer, IsMet, EachLeft, EachOwnLeft, NoStop, TellsStops}
 use Rattle.trace_extensions.specs.Fits.{IsCutShort, IsOpen, IsText}
-use Rattle.trace_extensions.specs.FitsStopped.{EventStopped, OwnStopped, not_begun, all_of_it, part_of_it, TellsStop, TellsOwnStop}
+use Rattle.trace_extensions.specs.FitsStopped.{IsCutOf, EventStopped, OwnStopped, not_begun, all_of_it, part_of_it, TellsStop, TellsOwnStop}
 use Rattle.trace_extensions.specs.Models.{Model, by_model, AreAlike, IsModelOf, IsDetermined, TellsFailures}
 use Rattle.trace_extensions.specs.Places.{Place, place, turn_at, MayStep}
 use Rattle.trace_extensions.specs.Steps.{AuditWorld, audit_world, IsStop, IsKnown, Passed, Heard, Own, Begun, Ended, audit_lines}
 use Rattle.trace_extensions.specs.Takes.{AtEachSeen, TakesLine, EndsWithin}
-use Rattle.trace_extensions.specs.Worlds.{AuditLeaves, AskedSo, DidAudit, LeftSo, all_asked, one_begun, ReadsInOwn}
+use Rattle.trace_extensions.specs.Worlds.{AuditLeaves, AskedSo, DidAudit, LeftSo, all_asked, one_begun, ReadsInOwn, ReadsStop, stop_fits}
 use Rattle.trace_extensions.specs.Stops.{LeftAt, event_begun, none_begun, own_done, own_begun}
+use Rattle.trace_extensions.proofs.Known.{known_left, known_fits}
 use Rattle.trace_extensions.proofs.StoppedFits.{open_undecided}
 use Rattle.trace_extensions.proofs.OnlyLines.{OwnMayBe, if_skipped, if_passed, if_own, met_event}
 use Rattle.trace_extensions.specs.declared.papers.{Reach.Reach, SideVerdict.SideVerdict}
@@ -128,7 +128,7 @@ module _ {K T : Type 0} (k : Ghosts K T) {V : Type 0} (view : K → V) (m : Mode
   -- the report was read to its end, and what may have been done for the line is left
   abbrev pub EndsAt : AuditWorld K → AuditWorld K → Type 0
   EndsAt old new = (told : List ℕ) × Consumes old.report new.report told × IsAtEnd new.report
-      × AtEachSeen old.audit (λ τ H. LeftAt k τ (world (place H old.rates) old.desk) line told new.audit new.desk)
+      × AtEachSeen old.audit (λ τ H. LeftAt k τ (world (place H old.rates) old.desk) line told new.audit new.desk × stop_fits view m τ (world (place H old.rates) old.desk) line told new)
 
   -- whatever may have been done for the line, the verdict leaves it open
   abbrev pub Missed : AuditWorld K → AuditWorld K → Type 0
@@ -155,7 +155,7 @@ module _ {K T : Type 0} (k : Ghosts K T) {V : Type 0} (view : K → V) (m : Mode
               kept = kept;
               reach = reach;
               took = (at.1, at.2, refl);
-              may = λ τ H texts history sees. (history, at.3 τ H texts history sees);
+              may = λ τ H texts history sees. let left = at.3 τ H texts history sees in (history, left.0, left.1);
               only = λ τ H texts history sees. (told τ H texts history sees, missed τ H texts history sees);
             };
             reported = (tt, refl);
@@ -217,9 +217,21 @@ module _ {K T : Type 0} (k : Ghosts K T) {V : Type 0} (view : K → V) (m : Mode
       by (n, inl stop) =
           let w = within n stop in (
             w.0,
-            w.2,
             w.3,
-            λ τ H texts history sees. let it = w.1 τ H texts history sees in event_begun (record { event = e; is = is; passes = passes; unforged = it.0; begun = it.1; stays = same }),
+            w.4,
+            λ τ H texts history sees.
+                let it = w.1 τ H texts history sees in
+                let x = w.2 τ H texts history sees in (
+                  event_begun (record { event = e; is = is; passes = passes; unforged = it.0; begun = it.1; stays = same }),
+                  λ n said. record {
+                    ledger = x.0;
+                    kept = view old.desk;
+                    stop = inl (record { event = e; is = is; passes = modelled.passes old.desk line passes; begins = x.1; leaves = x.2; stays = refl });
+                    history = x.3;
+                    sees = x.4;
+                    alike = subst (λ (d : K). m.Alike (view d) (view old.desk)) (sym same) (alike.same (view old.desk));
+                  },
+                ),
           )
       by (n, inr stop) = absurd (own n stop)
 
@@ -233,7 +245,7 @@ module _ {K T : Type 0} (k : Ghosts K T) {V : Type 0} (view : K → V) (m : Mode
       by (n, inl stop) = absurd (none n stop)
       by (n, inr stop) =
           let w = own n stop in
-          ([], w.0, w.1, λ τ H texts history sees. none_begun (record { silent = refl; sees = subst (λ (a : Audit). Sees a H) (sym audit) sees; stays = same }))
+          ([], w.0, w.1, λ τ H texts history sees. (none_begun (record { silent = refl; sees = subst (λ (a : Audit). Sees a H) (sym audit) sees; stays = same }), λ j said. absurd (none j said)))
 
   -- what the report has of an own line's answer, whatever may have been done for it
   abbrev pub OwnLeaves : (ℕ → List ℕ → Reply → Type 0) → Audit → List ℕ → K → Next → Option (List ℕ) → (Tariff → World Place V → List ℕ → Type 0) → Type 0
@@ -256,7 +268,7 @@ module _ {K T : Type 0} (k : Ghosts K T) {V : Type 0} (view : K → V) (m : Mode
     steps = all.asked.steps;
     behind = all.asked.new;
     did = record { first = first; desk = mid; begins = begins; asks = all.asked.asks };
-    begins = subst (λ (d : K). IsPrefixOf told (flat_map ended (k.texts d))) (sym all.asked.seen.desk) all.begins;
+    cut = subst (λ (d : K). IsCutOf told (k.texts d)) (sym all.asked.seen.desk) all.cut;
     history = all.asked.seen.history;
     sees = all.asked.seen.sees;
     left = sym all.asked.seen.desk;
@@ -286,7 +298,7 @@ module _ {K T : Type 0} (k : Ghosts K T) {V : Type 0} (view : K → V) (m : Mode
       → (Fails : ℕ → List ℕ → Reply → Type 0) → Tells Fails → keeps audit1 ≡ keeps audit0 → k.IsOwn own line → k.Begins desk own first mid → first ≢ Stop
       → reach1 ≡ reach0 → OwnLeaves Fails audit0 left0 mid first report0 (λ τ new told. IsCutShort v1)
       → StopsLeave audit0 left0 mid first report0 (TellsOwnStop m reach1 v1 audit1 (view desk1))
-      → ((n : ℕ) → v1 ≡ verdict.Stopped n → ReadsInOwn k audit0 left0 mid first report0 audit1 desk1 report1)
+      → ((n : ℕ) → v1 ≡ verdict.Stopped n → ReadsStop k view m audit0 left0 mid first report0 audit1 desk1 report1)
       → ((n : ℕ) → v1 ≡ verdict.StoppedInOwn n → ReadsInOwn k audit0 left0 mid first report0 audit1 desk1 report1)
       → End (Some Stopped) (audit_world audit0 left0 desk report0 v0 reach0) (audit_world audit1 left1 desk1 report1 v1 reach1) taken taken
   own_stopped audit0 audit1 left0 left1 desk mid desk1 report0 report1 v0 v1 reach0 reach1 taken own first Fails tells kept is begins goes reach leaves stops one two =
@@ -301,12 +313,27 @@ module _ {K T : Type 0} (k : Ghosts K T) {V : Type 0} (view : K → V) (m : Mode
         own = λ bytes L kept stop report_is. stops τ H texts history sees bytes report_is (view desk) line L kept (modelled.begins desk mid own line first is begins goes) goes stop;
       }
 
-      so : ReadsInOwn k audit0 left0 mid first report0 audit1 desk1 report1 → EndsAt (audit_world audit0 left0 desk report0 v0 reach0) (audit_world audit1 left1 desk1 report1 v1 reach1)
-      so r = (r.0, r.1, r.2, λ τ H texts history sees. own_left τ H left0 desk mid desk1 audit1 own first r.0 is begins (r.3 τ H texts history sees))
+      left_so : (τ : Tariff) (H : Ledger) (bytes : List ℕ) → LeftSo k τ (world (place H left0) mid) first bytes audit1 desk1 → LeftAt k τ (world (place H left0) desk) line bytes audit1 desk1
+      left_so τ H bytes left = own_left τ H left0 desk mid desk1 audit1 own first bytes is begins left
+
+      known : ReadsStop k view m audit0 left0 mid first report0 audit1 desk1 report1 → EndsAt (audit_world audit0 left0 desk report0 v0 reach0) (audit_world audit1 left1 desk1 report1 v1 reach1)
+      known r = (
+        r.0,
+        r.1,
+        r.2,
+        λ τ H texts history sees.
+            let so = r.3 τ H texts history sees in (
+              left_so τ H r.0 (known_left k view m τ (place H left0) mid first r.0 audit1 desk1 history so),
+              λ n said. known_fits k view m modelled alike τ (place H left0) desk mid line own first r.0 audit1 desk1 history is begins goes so,
+            ),
+      )
+
+      reached : (n : ℕ) → v1 ≡ verdict.StoppedInOwn n → ReadsInOwn k audit0 left0 mid first report0 audit1 desk1 report1 → EndsAt (audit_world audit0 left0 desk report0 v0 reach0) (audit_world audit1 left1 desk1 report1 v1 reach1)
+      reached n other r = (r.0, r.1, r.2, λ τ H texts history sees. (left_so τ H r.0 (r.3 τ H texts history sees), λ j said. absurd (cc (said, other))))
 
       by : IsStop (audit_world audit1 left1 desk1 report1 v1 reach1) → EndsAt (audit_world audit0 left0 desk report0 v0 reach0) (audit_world audit1 left1 desk1 report1 v1 reach1)
-      by (n, inl stop) = so (one n stop)
-      by (n, inr stop) = so (two n stop)
+      by (n, inl stop) = known (one n stop)
+      by (n, inr stop) = reached n stop (two n stop)
 
   -- the extension answered, and the report has its texts
   pub answered : (audit0 audit1 : Audit) (left0 left1 : List ℕ) (desk mid desk1 : K) (report0 report1 : Option (List ℕ)) (v0 v1 : SideVerdict) (reach0 reach1 : Option Reach) (taken : Option (List ℕ)) (own : k.Own) (first : Next)

@@ -138,7 +138,7 @@ module _ {V : Type 0} (m : Model V) (det : IsDetermined m) where
       module _ (τ : Tariff) (scene : Place) (desk : V) (first : Next) (prefix : List ℕ)
           (idle : prefix ≡ [] → (old new : World Place V) (line : List ℕ) (steps : List StepRecord) (next : Next) (did : DidOwn (by_model m) (MayStep τ) old new line steps next) → did.first ≡ first → did.desk ≡ desk → IsIdle m old new next) where
         -- if nothing was written, what the line begins with changes nothing
-        first_alike : prefix ≡ [] → (v : V) (line : List ℕ) → m.Begins v line first desk → m.Alike desk v
+        pub first_alike : prefix ≡ [] → (v : V) (line : List ℕ) → m.Begins v line first desk → m.Alike desk v
         first_alike none v line begins =
             (idle none (world scene v) (world scene desk) line [] first (record { first = first; desk = desk; begins = begins; asks = (refl, refl) }) refl refl).alike
 

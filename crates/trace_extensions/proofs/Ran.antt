@@ -30,7 +30,7 @@ use Rattle.trace_extensions.specs.Places.{Place, place, MayStep}
 use Rattle.trace_extensions.specs.Sides.{MayHaveDone, MayHaveRun}
 use Rattle.trace_extensions.specs.Steps.{AuditWorld, AuditStep, Heard, Own, Passed, audit_lines, AuditIsEnd, AuditGoesOn, AuditEnds}
 use Rattle.trace_extensions.specs.Steps as audit
-use Rattle.trace_extensions.specs.Worlds.{AuditLeaves, IsSeenAt, DidAudit}
+use Rattle.trace_extensions.specs.Worlds.{stop_fits, AuditLeaves, IsSeenAt, DidAudit}
 use Rattle.trace_extensions.proofs.Translated.{IsStepOf, AreStepsOf, NoneEnds, DoneTwice, done_twice, same_length, same_script, same_report, texts_of, read_step, all_read, all_go_on, all_texts, going, took}
 
 -- the run came to the end of its script
@@ -192,7 +192,7 @@ module _ {K T : Type 0} (k : Ghosts K T) where
     pub may_have_done : (τ : Tariff) (H : Ledger) → IsOfTexts τ → History τ editions H → Sees w0.audit H
         → Replayed (side_lines k) (Run s) (MayHaveDone k τ H w0.rates w0.desk w1.desk w1.audit) left0 left1 (Some []) (Some report)
     may_have_done τ H texts history sees =
-        let w = done_twice k τ (IsSeenAt τ r.did.behind.audit r.did.behind.rates r.did.behind.desk) r.trace r.done none_ends none_last (world (place H w0.rates) w0.desk) (r.did.did.may τ H texts history sees) in
+        let w = done_twice k τ (stop_fits view m τ) (IsSeenAt τ r.did.behind.audit r.did.behind.rates r.did.behind.desk) r.trace r.done none_ends none_last (world (place H w0.rates) w0.desk) (r.did.did.may τ H texts history sees) in
         let long = same_length k r.trace w.first w.are_first in
         record {
           trace = w.first;

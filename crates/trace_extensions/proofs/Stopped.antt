@@ -20,13 +20,13 @@ use Rattle.trace_extensions.specs.Places.{Place, place}
 use Rattle.trace_extensions.specs.Sides.{MayHaveLeft, StoppedAt, MayHaveStopped}
 use Rattle.trace_extensions.specs.Stops.{LeftAt}
 use Rattle.trace_extensions.specs.Steps.{AuditWorld, IsStop, AuditStep, Passed, Heard, Own, Begun, Ended, audit_lines, AuditEnds}
-use Rattle.trace_extensions.specs.Worlds.{AuditLeaves, IsSeenAt, DidAudit}
+use Rattle.trace_extensions.specs.Worlds.{stop_fits, AuditLeaves, IsSeenAt, DidAudit}
 use Rattle.trace_extensions.proofs.Translated.{NoneEnds, Done, done, may_split, same_length, same_script, same_report, texts_of, all_read, all_go_on, going, took, took_split}
 
 module _ {K T : Type 0} (k : Ghosts K T) {V : Type 0} (view : K → V) (m : Model V) (left0 left1 t0 t1 : Option (List ℕ)) (w0 w1 : AuditWorld K)
     (r : Replayed (audit_lines k) Stopped (turns.Ended (DidAudit k view m) AuditLeaves Stopped w0 w1) left0 left1 t0 t1)
     (old : Audit) (rates : List ℕ) (same : w0.rates ≡ rates) (begun : (H : Ledger) → SeesBetween old H → Sees w0.audit (Begin ∷ H)) where
-  none_ends : NoneEnds k r.trace
+  pub none_ends : NoneEnds k r.trace
   none_ends = going k r.trace r.go_on
 
   -- what it did, up to the last line
@@ -34,23 +34,23 @@ module _ {K T : Type 0} (k : Ghosts K T) {V : Type 0} (view : K → V) (m : Mode
   with_last did = subst (λ (d : List (AuditStep k.Own K)). DidAudit k view m w0 r.did.behind (r.trace ++ d)) did.only r.did.did
 
   module _ (did : DidLast (audit_lines k) r.rest (IsAtEnd left1) r.done) (line told : List ℕ) (left : AuditWorld K) (last : did.last ≡ Begun line told left) where
-    whole : DidAudit k view m w0 r.did.behind (r.trace ++ Begun line told left ∷ [])
+    pub whole : DidAudit k view m w0 r.did.behind (r.trace ++ Begun line told left ∷ [])
     whole = subst (λ (d : AuditStep k.Own K). DidAudit k view m w0 r.did.behind (r.trace ++ d ∷ [])) last (with_last did)
 
     -- the lines before, at a history
-    lines_done : (τ : Tariff) (H : Ledger) → IsOfTexts τ → History τ editions H → Sees w0.audit H
-        → Done k τ (λ at. History τ editions at.scene.ledger × LeftAt k τ at line told left.audit left.desk) (world (place H w0.rates) w0.desk) r.trace
+    pub lines_done : (τ : Tariff) (H : Ledger) → IsOfTexts τ → History τ editions H → Sees w0.audit H
+        → Done k τ (λ at. History τ editions at.scene.ledger × LeftAt k τ at line told left.audit left.desk × stop_fits view m τ at line told left) (world (place H w0.rates) w0.desk) r.trace
     lines_done τ H texts history sees =
         let at : World Place K = world (place H w0.rates) w0.desk in
         let P : World Place K → Type 0 = IsSeenAt τ r.did.behind.audit r.did.behind.rates r.did.behind.desk in
-        done k τ (λ mid. History τ editions mid.scene.ledger × LeftAt k τ mid line told left.audit left.desk) r.trace none_ends at
-        (may_split k τ P r.trace (Begun line told left ∷ []) none_ends at (whole.may τ H texts history sees))
+        done k τ (stop_fits view m τ) (λ mid. History τ editions mid.scene.ledger × LeftAt k τ mid line told left.audit left.desk × stop_fits view m τ mid line told left) r.trace none_ends at
+        (may_split k τ (stop_fits view m τ) P r.trace (Begun line told left ∷ []) none_ends at (whole.may τ H texts history sees))
 
     -- the audit left what the last step says
-    is_left : left ≡ w1
+    pub is_left : left ≡ w1
     is_left = let split = took_split k w0 r.did.behind r.trace (Begun line told left ∷ []) whole.took in sym (r.did.leaves ∙ split.2.2)
 
-    left_so : (τ : Tariff) (H : Ledger) (w : Done k τ (λ at. History τ editions at.scene.ledger × LeftAt k τ at line told left.audit left.desk) (world (place H w0.rates) w0.desk) r.trace)
+    left_so : (τ : Tariff) (H : Ledger) (w : Done k τ (λ at. History τ editions at.scene.ledger × LeftAt k τ at line told left.audit left.desk × stop_fits view m τ at line told left) (world (place H w0.rates) w0.desk) r.trace)
         → MayHaveLeft k τ H w0.rates w0.desk w1.desk w1.audit line told w.steps
     left_so τ H w = record {
       behind = w.new;
@@ -92,7 +92,7 @@ module _ {K T : Type 0} (k : Ghosts K T) {V : Type 0} (view : K → V) (m : Mode
         }
 
   -- the audit ended elsewhere
-  elsewhere : (did : DidLast (audit_lines k) r.rest (IsAtEnd left1) r.done) (line : List ℕ) (left : AuditWorld K) → did.last ≡ Ended line left → IsStop w1 → ⊥
+  pub elsewhere : (did : DidLast (audit_lines k) r.rest (IsAtEnd left1) r.done) (line : List ℕ) (left : AuditWorld K) → did.last ≡ Ended line left → IsStop w1 → ⊥
   elsewhere did line left last stop =
       let whole = subst (λ (d : AuditStep k.Own K). DidAudit k view m w0 r.did.behind (r.trace ++ d ∷ [])) last (with_last did) in
       let split = took_split k w0 r.did.behind r.trace (Ended line left ∷ []) whole.took in

@@ -17,7 +17,7 @@ use Rattle.bench_base.specs.declared.events.Event.{Event}
 use Rattle.trace_extensions.specs.Fits.{HasTexts}
 use Rattle.trace_extensions.specs.Places.{Place, MayStep}
 use Rattle.trace_extensions.specs.Steps.{AuditWorld, AuditStep, Passed, Heard, Own, Begun, Ended, audit_line, audit_text, audit_lines, AuditIsOf, AuditIsEnd, AuditGoesOn, AuditEnds}
-use Rattle.trace_extensions.specs.Worlds.{MayDo, Took}
+use Rattle.trace_extensions.specs.Worlds.{MayDo, StopSays, Took}
 
 module _ {K T : Type 0} (k : Ghosts K T) where
   -- the step of the audit is that of a run
@@ -42,14 +42,14 @@ module _ {K T : Type 0} (k : Ghosts K T) where
 
   -- == what was done ==
 
-  pub may_split : (τ : Tariff) (P : World Place K → Type 0) (xs ys : List (AuditStep k.Own K)) → NoneEnds xs → (at : World Place K) → MayDo k τ P at (xs ++ ys)
-      → MayDo k τ (λ mid. MayDo k τ P mid ys) at xs
-  may_split τ P [] ys none at may = may
-  may_split τ P (Passed line ∷ xs) ys none at may = may_split τ P xs ys none.1 at may
-  may_split τ P (Heard line e answer ∷ xs) ys none at may = (may.0, may.1, may.2, may_split τ P xs ys none.1 may.1 may.3)
-  may_split τ P (Own line own texts ∷ xs) ys none at may = (may.0, may.1, may.2, may_split τ P xs ys none.1 may.1 may.3)
-  may_split τ P (Begun line told left ∷ xs) ys none at may = absurd (none.0 tt)
-  may_split τ P (Ended line left ∷ xs) ys none at may = absurd (none.0 tt)
+  pub may_split : (τ : Tariff) (S : StopSays K) (P : World Place K → Type 0) (xs ys : List (AuditStep k.Own K)) → NoneEnds xs → (at : World Place K) → MayDo k τ S P at (xs ++ ys)
+      → MayDo k τ S (λ mid. MayDo k τ S P mid ys) at xs
+  may_split τ S P [] ys none at may = may
+  may_split τ S P (Passed line ∷ xs) ys none at may = may_split τ S P xs ys none.1 at may
+  may_split τ S P (Heard line e answer ∷ xs) ys none at may = (may.0, may.1, may.2, may_split τ S P xs ys none.1 may.1 may.3)
+  may_split τ S P (Own line own texts ∷ xs) ys none at may = (may.0, may.1, may.2, may_split τ S P xs ys none.1 may.1 may.3)
+  may_split τ S P (Begun line told left ∷ xs) ys none at may = absurd (none.0 tt)
+  may_split τ S P (Ended line left ∷ xs) ys none at may = absurd (none.0 tt)
 
   -- some steps of a run did them, and P holds of what they leave
   pub record Done (τ : Tariff) (P : World Place K → Type 0) (at : World Place K) (xs : List (AuditStep k.Own K)) : Type 0 where
@@ -63,11 +63,11 @@ module _ {K T : Type 0} (k : Ghosts K T) where
       → Done τ P mid xs → Done τ P at (a ∷ xs)
   one_more τ P at mid a xs b is does w = record { steps = b ∷ w.steps; new = w.new; are = (is, w.are); does = (mid, does, w.does); that = w.that }
 
-  pub done : (τ : Tariff) (P : World Place K → Type 0) (xs : List (AuditStep k.Own K)) → NoneEnds xs → (at : World Place K) → MayDo k τ P at xs → Done τ P at xs
-  done τ P [] none at may = record { steps = []; new = at; are = tt; does = refl; that = may }
-  done τ P (Passed line ∷ xs) none at may =
-      one_more τ P at at (Passed line) xs (Plain (Skipped line)) (record { line = refl; text = refl; is = λ is. is; texts = λ is. tt; goes = λ goes. goes; end = λ end. end }) refl (done τ P xs none.1 at may)
-  done τ P (Heard line e answer ∷ xs) none at (d, mid, h, may) =
+  pub done : (τ : Tariff) (S : StopSays K) (P : World Place K → Type 0) (xs : List (AuditStep k.Own K)) → NoneEnds xs → (at : World Place K) → MayDo k τ S P at xs → Done τ P at xs
+  done τ S P [] none at may = record { steps = []; new = at; are = tt; does = refl; that = may }
+  done τ S P (Passed line ∷ xs) none at may =
+      one_more τ P at at (Passed line) xs (Plain (Skipped line)) (record { line = refl; text = refl; is = λ is. is; texts = λ is. tt; goes = λ goes. goes; end = λ end. end }) refl (done τ S P xs none.1 at may)
+  done τ S P (Heard line e answer ∷ xs) none at (d, mid, h, may) =
       one_more τ P at mid (Heard line e answer) xs (Plain (Did line d)) (record {
         line = refl;
         text = ap (λ (l : List ℕ). ended l) h.text;
@@ -75,12 +75,12 @@ module _ {K T : Type 0} (k : Ghosts K T) where
         texts = λ is. tt;
         goes = λ goes end. goes (sym h.event ∙ end);
         end = λ end. h.event ∙ end;
-      }) h.did (done τ P xs none.1 mid may)
-  done τ P (Own line own texts ∷ xs) none at (steps, mid, answered, may) =
+      }) h.did (done τ S P xs none.1 mid may)
+  done τ S P (Own line own texts ∷ xs) none at (steps, mid, answered, may) =
       one_more τ P at mid (Own line own texts) xs (side.Own line own steps texts) (record { line = refl; text = refl; is = λ is. is.0; texts = λ is. is.1; goes = λ goes. goes; end = λ end. end }) answered
-      (done τ P xs none.1 mid may)
-  done τ P (Begun line told left ∷ xs) none at may = absurd (none.0 tt)
-  done τ P (Ended line left ∷ xs) none at may = absurd (none.0 tt)
+      (done τ S P xs none.1 mid may)
+  done τ S P (Begun line told left ∷ xs) none at may = absurd (none.0 tt)
+  done τ S P (Ended line left ∷ xs) none at may = absurd (none.0 tt)
 
   -- of the lines before the last, and of the last
   pub record DoneTwice (τ : Tariff) (P : World Place K → Type 0) (at : World Place K) (xs ys : List (AuditStep k.Own K)) : Type 0 where
@@ -92,10 +92,10 @@ module _ {K T : Type 0} (k : Ghosts K T) where
     pub does : Does k (MayStep τ) at new (first ++ last)
     pub that : P new
 
-  pub done_twice : (τ : Tariff) (P : World Place K → Type 0) (xs ys : List (AuditStep k.Own K)) → NoneEnds xs → NoneEnds ys → (at : World Place K) → MayDo k τ P at (xs ++ ys) → DoneTwice τ P at xs ys
-  done_twice τ P xs ys none none' at may =
-      let one = done τ (λ mid. MayDo k τ P mid ys) xs none at (may_split τ P xs ys none at may) in
-      let two = done τ P ys none' one.new one.that in
+  pub done_twice : (τ : Tariff) (S : StopSays K) (P : World Place K → Type 0) (xs ys : List (AuditStep k.Own K)) → NoneEnds xs → NoneEnds ys → (at : World Place K) → MayDo k τ S P at (xs ++ ys) → DoneTwice τ P at xs ys
+  done_twice τ S P xs ys none none' at may =
+      let one = done τ S (λ mid. MayDo k τ S P mid ys) xs none at (may_split τ S P xs ys none at may) in
+      let two = done τ S P ys none' one.new one.that in
       record {
         first = one.steps;
         last = two.steps;

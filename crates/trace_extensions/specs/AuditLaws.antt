@@ -12,7 +12,7 @@ use Rattle.trace_extensions.specs.Places.{Place, place}
 use Rattle.trace_extensions.specs.Steps.{AuditWorld, AuditStep, Passed, Heard, Own, Begun, Ended, audit_grammar, audit_lines, AuditIsOf, AuditGoesOn, AuditIsEnd, audit_line}
 use Rattle.trace_extensions.specs.Exact.{IsMetIn, Only}
 use Rattle.trace_extensions.specs.Models.{Model}
-use Rattle.trace_extensions.specs.Worlds.{AuditLeaves, IsSeenAt, MayDo, Took, DidAudit}
+use Rattle.trace_extensions.specs.Worlds.{AuditLeaves, IsSeenAt, MayDo, StopSays, Took, DidAudit, stop_fits}
 
 module _ {K T : Type 0} (k : Ghosts K T) where
   took_both : (x y z : AuditWorld K) (a b : List (AuditStep k.Own K)) → Took k x y a → Took k y z b → Took k x z (a ++ b)
@@ -23,14 +23,14 @@ module _ {K T : Type 0} (k : Ghosts K T) where
   took_both x y z (Begun line told left ∷ a) b p q = (p.0, p.1, took_both left y z a b p.2 q)
   took_both x y z (Ended line left ∷ a) b p q = took_both left y z a b p q
 
-  may_both : (τ : Tariff) (P Q : World Place K → Type 0) (xs ys : List (AuditStep k.Own K)) → ((at : World Place K) → P at → MayDo k τ Q at ys)
-      → (at : World Place K) → MayDo k τ P at xs → MayDo k τ Q at (xs ++ ys)
-  may_both τ P Q [] ys next at p = next at p
-  may_both τ P Q (Passed line ∷ xs) ys next at p = may_both τ P Q xs ys next at p
-  may_both τ P Q (Heard line e answer ∷ xs) ys next at p = (p.0, p.1, p.2, may_both τ P Q xs ys next p.1 p.3)
-  may_both τ P Q (Own line own texts ∷ xs) ys next at p = (p.0, p.1, p.2, may_both τ P Q xs ys next p.1 p.3)
-  may_both τ P Q (Begun line told left ∷ xs) ys next at p = p
-  may_both τ P Q (Ended line left ∷ xs) ys next at p = tt
+  may_both : (τ : Tariff) (S : StopSays K) (P Q : World Place K → Type 0) (xs ys : List (AuditStep k.Own K)) → ((at : World Place K) → P at → MayDo k τ S Q at ys)
+      → (at : World Place K) → MayDo k τ S P at xs → MayDo k τ S Q at (xs ++ ys)
+  may_both τ S P Q [] ys next at p = next at p
+  may_both τ S P Q (Passed line ∷ xs) ys next at p = may_both τ S P Q xs ys next at p
+  may_both τ S P Q (Heard line e answer ∷ xs) ys next at p = (p.0, p.1, p.2, may_both τ S P Q xs ys next p.1 p.3)
+  may_both τ S P Q (Own line own texts ∷ xs) ys next at p = (p.0, p.1, p.2, may_both τ S P Q xs ys next p.1 p.3)
+  may_both τ S P Q (Begun line told left ∷ xs) ys next at p = p
+  may_both τ S P Q (Ended line left ∷ xs) ys next at p = tt
 
   -- an audit of one who has the same
   at_same : {X : Type 0} (at : World Place X) (ledger : Ledger) (rates : List ℕ) (desk : X) → at.scene.ledger ≡ ledger → at.scene.left ≡ rates
@@ -61,8 +61,8 @@ module _ {K T : Type 0} (k : Ghosts K T) where
       kept = q.kept ∙ p.kept;
       reach = q.reach ∙ p.reach;
       took = took_both x y z a b p.took q.took;
-      may = λ τ H texts history sees. may_both τ (IsSeenAt τ y.audit y.rates y.desk) (IsSeenAt τ z.audit z.rates z.desk) a b
-          (λ at seen. subst (λ (w : World Place K). MayDo k τ (IsSeenAt τ z.audit z.rates z.desk) w b)
+      may = λ τ H texts history sees. may_both τ (stop_fits view m τ) (IsSeenAt τ y.audit y.rates y.desk) (IsSeenAt τ z.audit z.rates z.desk) a b
+          (λ at seen. subst (λ (w : World Place K). MayDo k τ (stop_fits view m τ) (IsSeenAt τ z.audit z.rates z.desk) w b)
           (at_same at at.scene.ledger y.rates y.desk refl seen.left seen.desk)
           (q.may τ at.scene.ledger texts seen.history seen.sees)) (world (place H x.rates) x.desk) (p.may τ H texts history sees);
       only = λ τ H texts history sees. only_both τ (Met τ y) (Met τ z) a b

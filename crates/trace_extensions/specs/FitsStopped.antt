@@ -3,8 +3,9 @@ use Rattle.std.specs.Prelude.{◌≡◌, ◌⊎◌, ℕ, ◌+◌, ◌≤◌, Lis
 use Rattle.std.specs.List.{AllByRecursion}
 use Rattle.bench_base.specs.declared.events.Event.{Event}
 use Rattle.bench_base.specs.Ledger.{Ledger}
+use Rattle.bench_base.specs.Rules.{editions}
 use Rattle.ledger_moves.specs.Tariffs.{Tariff}
-use Rattle.ledger_moves.specs.Histories.{Unforged}
+use Rattle.ledger_moves.specs.Histories.{History, Unforged}
 use Rattle.line_runs.specs.Ends.{lines_of}
 use Rattle.line_runs.specs.Lines.{ended}
 use Rattle.line_runs.specs.Trace.{Reads, report_of}
@@ -100,6 +101,15 @@ module _ {V : Type 0} (m : Model V) where
     pub kept : V
     pub stop : AtLine behind line told ledger kept
 
+  -- a stop at this line which the auditor sees and the extension keeps, as it has them then
+  pub record StopFits (τ : Tariff) (at : World Place V) (line told : List ℕ) (new : Audit) (w : V) : Type 0 where
+    pub ledger : Ledger
+    pub kept : V
+    pub stop : EventStopped m τ at line told ledger kept ⊎ OwnStopped m τ at line told ledger kept
+    pub history : History τ editions ledger
+    pub sees : SeesBetween new ledger
+    pub alike : m.Alike w kept
+
   -- == what a verdict says of it ==
 
   -- This was said; the auditor has that then, and keeps this.
@@ -122,6 +132,12 @@ module _ {V : Type 0} (m : Model V) where
 
   -- These rates were left, and this was kept before the run and after it; the auditor had this before, and has that.
   module _ (script report : Option (List ℕ)) (rates : List ℕ) (v w : V) (old new : Audit) (verdict : SideVerdict) (reach : Option Reach) where
+    -- IF IT IS STOPPED, a run may have been stopped so, from each history that the auditor had; and what that leaves is seen and kept
+    abbrev pub FitsIfStopped : Type 0
+    FitsIfStopped = AtKnown m script report (λ text told. (n : ℕ) → verdict ≡ Stopped n
+        → AtSeen old (λ τ H. (fits : FitsStopped (λ at line told K kept. EventStopped m τ at line told K kept ⊎ OwnStopped m τ at line told K kept)
+        τ H text told rates v) × History τ editions fits.ledger × SeesBetween new fits.ledger × m.Alike w fits.kept))
+
     -- IF A RUN MAY HAVE BEEN STOPPED AT AN EVENT, from a history that the auditor had, it is called so
     abbrev pub StoppedIfFits : Type 0
     StoppedIfFits = AtKnown m script report (λ text told. AtSeen old (λ τ H. (fits : FitsStopped (λ at line told K kept. EventStopped m τ at line told K kept) τ H text told rates v)

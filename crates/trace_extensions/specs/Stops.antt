@@ -1,16 +1,16 @@
 -- What may have been done for the line at which a run was stopped, by the ledger.
-use Rattle.std.specs.Prelude.{◌≡◌, ◌⊎◌, ℕ, List, [], flat_map}
+use Rattle.std.specs.Prelude.{◌≡◌, ◌⊎◌, ℕ, List, []}
 use Rattle.bench_base.specs.declared.events.Event.{Event}
 use Rattle.bench_base.specs.Rules.{editions}
 use Rattle.ledger_moves.specs.Tariffs.{Tariff}
 use Rattle.ledger_moves.specs.Histories.{History, Unforged}
-use Rattle.line_runs.specs.Lines.{ended}
 use Rattle.line_extensions.specs.Trace.{StepRecord}
 use Rattle.line_extensions.specs.Events.{IsLineOf}
 use Rattle.line_extensions.specs.Desks.{World, DidOwn}
 use Rattle.line_extensions.specs.declared.{extension.Extension.Ghosts, extension.Next.TheVariants.Step, extension.Next.TheVariants.Say}
 use Rattle.trace_bench.specs.Seeing.{Audit, Sees}
-use Rattle.trace_bench.specs.Stopping.{IsBegun, IsPrefixOf}
+use Rattle.trace_bench.specs.Stopping.{IsBegun}
+use Rattle.trace_extensions.specs.FitsStopped.{IsCutOf}
 use Rattle.trace_extensions.specs.Places.{Place, MayStep}
 
 -- The step that was asked for next was begun, and may have been done with a reply that begins so. Or nothing of it was begun, and the report has nothing
@@ -36,14 +36,14 @@ module _ {K T : Type 0} (k : Ghosts K T) (τ : Tariff) (at : World Place K) (lin
     pub sees : Sees now at.scene.ledger
     pub stays : desk ≡ at.desk
 
-  -- it is an own line, of which all was done: its answer begins so
+  -- it is an own line, of which all was done: its answer begins so, and was not written whole
   pub record OwnDone : Type 0 where
     pub own : k.Own
     pub is : k.IsOwn own line
     pub steps : List StepRecord
     pub behind : World Place K
     pub did : DidOwn k (MayStep τ) at behind own steps Say
-    pub begins : IsPrefixOf told (flat_map ended (k.texts behind.desk))
+    pub cut : IsCutOf told (k.texts behind.desk)
     pub history : History τ editions behind.scene.ledger
     pub sees : Sees now behind.scene.ledger
     pub left : desk ≡ behind.desk

@@ -14,6 +14,9 @@ use Rattle.trace_bench.specs.Prefixes.{IsDue}
 use Rattle.trace_bench.specs.Seeing.{Audit, Sees}
 use Rattle.trace_bench.specs.Stopping.{IsBegun}
 use Rattle.trace_runs.specs.Audits.{MayTell}
+use Rattle.trace_runs.specs.Between.{SeesBetween}
+use Rattle.trace_runs.specs.Fitting.{BeginsTold}
+use Rattle.trace_runs.specs.Runs.{StopLeaves}
 use Rattle.node_turns.specs.declared.turn.Turn.{Turn}
 use Rattle.trace_extensions.specs.Places.{turn_at}
 
@@ -42,6 +45,12 @@ IsDueAt e due left old new = AtEachSeen old (λ τ H. Unforged e H × IsDue τ H
 abbrev pub IsBegunAt : Event → List ℕ → List ℕ → Audit → Audit → Type 0
 IsBegunAt e told left old new = AtEachSeen old (λ τ H. Unforged e H × IsBegun τ H e left told new)
 
+-- the run may have been stopped at the event, with these bytes of the answer written, and leave a ledger that the auditor then sees
+abbrev pub MayLeave : Event → List ℕ → List ℕ → Audit → Audit → Type 0
+MayLeave e told left old new =
+    AtEachSeen old (λ τ H. (K : Ledger) × BeginsTold τ H left e told × StopLeaves τ H e left told K × History τ editions K × SeesBetween new K)
+
 -- the report ends with bytes that may begin the line of the answer to the event
 abbrev pub EndsWithin : Event → List ℕ → Audit → Audit → Option (List ℕ) → Option (List ℕ) → Type 0
-EndsWithin e left old new report0 report1 = (told : List ℕ) × IsBegunAt e told left old new × Consumes report0 report1 told × IsAtEnd report1
+EndsWithin e left old new report0 report1 =
+    (told : List ℕ) × IsBegunAt e told left old new × MayLeave e told left old new × Consumes report0 report1 told × IsAtEnd report1

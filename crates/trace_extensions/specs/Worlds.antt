@@ -1,5 +1,5 @@
 -- What an audit of a run with an extension works on, and what it did for the lines.
-use Rattle.std.specs.Prelude.{◌≡◌, ℕ, List, [], ◌∷◌, flat_map, Option}
+use Rattle.std.specs.Prelude.{◌≡◌, ◌⊎◌, ℕ, List, [], ◌∷◌, Option}
 use Rattle.std.specs.Io.KnownBytes.{Consumes, IsAtEnd}
 use Rattle.bench_base.specs.declared.events.Event.{Event}
 use Rattle.bench_base.specs.Rules.{editions}
@@ -7,13 +7,14 @@ use Rattle.ledger_moves.specs.Tariffs.{Tariff}
 use Rattle.ledger_moves.specs.Histories.{History}
 use Rattle.node_turns.specs.declared.turn.Turn.{Turn}
 use Rattle.script_text.specs.Texts.{text_of}
-use Rattle.line_runs.specs.Lines.{ended}
 use Rattle.line_runs.specs.declared.status.SideStatus.{SideStatus}
 use Rattle.line_extensions.specs.Trace.{StepRecord}
 use Rattle.line_extensions.specs.Desks.{World, world, Asks, DidPlain, Answered}
 use Rattle.line_extensions.specs.declared.{extension.Extension.Ghosts, extension.Next.Next, extension.Next.TheVariants.Step, extension.Next.TheVariants.Say}
 use Rattle.trace_bench.specs.Seeing.{Audit, Sees, keeps}
-use Rattle.trace_bench.specs.Stopping.{IsPrefixOf}
+use Rattle.line_extensions.specs.Wants.{IsStep}
+use Rattle.trace_extensions.specs.FitsStopped.{IsCutOf, StopFits}
+use Rattle.trace_extensions.specs.declared.papers.SideVerdict.TheVariants.{Stopped}
 use Rattle.trace_extensions.specs.Exact.{IsMetIn, Only}
 use Rattle.trace_extensions.specs.Models.{Model}
 use Rattle.trace_extensions.specs.Places.{Place, place, MayStep}
@@ -28,6 +29,10 @@ pub record IsSeenAt {K : Type 0} (τ : Tariff) (a : Audit) (rates : List ℕ) (e
   pub left : at.scene.left ≡ rates
   pub desk : at.desk ≡ extension
 
+-- what is said of a stop
+abbrev pub StopSays : Type 0 → Type 1
+StopSays K = World Place K → List ℕ → List ℕ → AuditWorld K → Type 0
+
 module _ {K T : Type 0} (k : Ghosts K T) where
   -- the event was done by a step with a reply of this line
   pub record HeardAt (τ : Tariff) (old new : World Place K) (line : List ℕ) (e : Event) (answer : List ℕ) (d : StepRecord) : Type 0 where
@@ -35,15 +40,17 @@ module _ {K T : Type 0} (k : Ghosts K T) where
     pub text : text_of d.reply ≡ answer
     pub did : DidPlain k (MayStep τ) old new line d
 
-  -- what may have been done for the lines, and P of what it leaves; nothing more is said once the audit ended
-  abbrev pub MayDo : Tariff → (World Place K → Type 0) → World Place K → List (AuditStep k.Own K) → Type 0
-  MayDo τ P at [] = P at
-  MayDo τ P at (Passed line ∷ rest) = MayDo τ P at rest
-  MayDo τ P at (Heard line e answer ∷ rest) = (d : StepRecord) × (mid : World Place K) × HeardAt τ at mid line e answer d × MayDo τ P mid rest
-  MayDo τ P at (Own line own texts ∷ rest) =
-      (steps : List StepRecord) × (mid : World Place K) × Answered k (MayStep τ) at mid own steps texts × MayDo τ P mid rest
-  MayDo τ P at (Begun line told left ∷ rest) = History τ editions at.scene.ledger × LeftAt k τ at line told left.audit left.desk
-  MayDo τ P at (Ended line left ∷ rest) = Unit {0}
+  -- What may have been done for the lines, and P of what it leaves. If the report ended at a line, S is said of the place, the line, the bytes of its
+  -- answer and what the audit left. Nothing more is said once the audit ended.
+  abbrev pub MayDo : Tariff → StopSays K → (World Place K → Type 0) → World Place K → List (AuditStep k.Own K) → Type 0
+  MayDo τ S P at [] = P at
+  MayDo τ S P at (Passed line ∷ rest) = MayDo τ S P at rest
+  MayDo τ S P at (Heard line e answer ∷ rest) = (d : StepRecord) × (mid : World Place K) × HeardAt τ at mid line e answer d × MayDo τ S P mid rest
+  MayDo τ S P at (Own line own texts ∷ rest) =
+      (steps : List StepRecord) × (mid : World Place K) × Answered k (MayStep τ) at mid own steps texts × MayDo τ S P mid rest
+  MayDo τ S P at (Begun line told left ∷ rest) =
+      History τ editions at.scene.ledger × LeftAt k τ at line told left.audit left.desk × S at line told left
+  MayDo τ S P at (Ended line left ∷ rest) = Unit {0}
 
   -- what it took of the report, and what it left where it ended
   abbrev pub Took : AuditWorld K → AuditWorld K → List (AuditStep k.Own K) → Type 0
@@ -73,7 +80,7 @@ module _ {K T : Type 0} (k : Ghosts K T) where
   pub record AllAsked (τ : Tariff) (old : World Place K) (first : Next) (told : List ℕ) (a : Audit) (desk : K) : Type 0 where
     pub rates : List ℕ
     pub asked : AskedSo τ old a rates desk first Say
-    pub begins : IsPrefixOf told (flat_map ended (k.texts desk))
+    pub cut : IsCutOf told (k.texts desk)
 
   -- it asked for one step more, which was begun
   pub record OneBegun (τ : Tariff) (old : World Place K) (first : Next) (told : List ℕ) (a : Audit) (desk : K) : Type 0 where
@@ -94,10 +101,36 @@ module _ {K T : Type 0} (k : Ghosts K T) where
   abbrev pub EndsInOwn : Audit → List ℕ → K → Next → List ℕ → Audit → K → Type 0
   EndsInOwn old left mid first told new desk = AtEachSeen old (λ τ H. LeftSo τ (world (place H left) mid) first told new desk)
 
+  -- what it would have done changes nothing, nothing of its answer was written, and all is left as it was
+  pub record Rested {V : Type 0} (view : K → V) (m : Model V) (old : World Place K) (first : Next) (told : List ℕ) (a : Audit) (desk : K) : Type 0 where
+    pub step : IsStep first
+    pub silent : told ≡ []
+    pub sees : Sees a old.scene.ledger
+    pub stays : desk ≡ old.desk
+    pub alike : (v : V) (line : List ℕ) → m.Begins v line first (view old.desk) → m.Alike (view old.desk) v
+
+  -- it is known what was done for it: all, or nothing
+  abbrev pub KnownSo : {V : Type 0} → (K → V) → Model V → Tariff → World Place K → Next → List ℕ → Audit → K → Type 0
+  KnownSo view m τ old first told a desk = AllAsked τ old first told a desk ⊎ Rested view m old first told a desk
+
+  -- the same at each history
+  abbrev pub StopsInOwn : {V : Type 0} → (K → V) → Model V → Audit → List ℕ → K → Next → List ℕ → Audit → K → Type 0
+  StopsInOwn view m old left mid first told new desk = AtEachSeen old (λ τ H. KnownSo view m τ (world (place H left) mid) first told new desk)
+
+  -- and this was read of the report, up to its end
+  abbrev pub ReadsStop : {V : Type 0} → (K → V) → Model V → Audit → List ℕ → K → Next → Option (List ℕ) → Audit → K → Option (List ℕ) → Type 0
+  ReadsStop view m old left mid first report0 new desk report1 =
+      (told : List ℕ) × Consumes report0 report1 told × IsAtEnd report1 × StopsInOwn view m old left mid first told new desk
+
   -- and this was read of the report, up to its end
   abbrev pub ReadsInOwn : Audit → List ℕ → K → Next → Option (List ℕ) → Audit → K → Option (List ℕ) → Type 0
   ReadsInOwn old left mid first report0 new desk report1 =
       (told : List ℕ) × Consumes report0 report1 told × IsAtEnd report1 × EndsInOwn old left mid first told new desk
+
+-- if it is called stopped, a run by the model may have been stopped there
+abbrev pub stop_fits : {K V : Type 0} → (K → V) → Model V → Tariff → StopSays K
+stop_fits view m τ at line told left =
+    (n : ℕ) → left.verdict ≡ Stopped n → StopFits m τ (world at.scene (view at.desk)) line told left.audit (view left.desk)
 
 module _ {K T : Type 0} (k : Ghosts K T) {V : Type 0} (view : K → V) (m : Model V) where
   -- WHAT AN AUDIT DID for the lines: at each history that the auditor had, it may have been done, and the auditor sees what it leaves. And by the model
@@ -106,7 +139,7 @@ module _ {K T : Type 0} (k : Ghosts K T) {V : Type 0} (view : K → V) (m : Mode
     pub kept : keeps new.audit ≡ keeps old.audit
     pub reach : new.reach ≡ old.reach
     pub took : Took k old new trace
-    pub may : AtEachSeen old.audit (λ τ H. MayDo k τ (IsSeenAt τ new.audit new.rates new.desk) (world (place H old.rates) old.desk) trace)
+    pub may : AtEachSeen old.audit (λ τ H. MayDo k τ (stop_fits view m τ) (IsSeenAt τ new.audit new.rates new.desk) (world (place H old.rates) old.desk) trace)
     pub only : AtEachSeen old.audit (λ τ H. Only k view m τ (IsMetIn view τ new) (world (place H old.rates) (view old.desk)) old.report trace)
 
 -- an audit leaves what it leaves, however it ends

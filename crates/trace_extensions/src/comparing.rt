@@ -1,5 +1,5 @@
 //! The answer of an extension beside the lines of the report.
-ghost use Rattle.std.specs.Prelude.{◌≡◌, ◌≢◌, ◌⊎◌, ◌++◌, ◌≤◌, ℕ, List, ◌∷◌, Some, true, false, flat_map, length, take, MatchBool};
+ghost use Rattle.std.specs.Prelude.{◌≡◌, ◌≢◌, ◌⊎◌, ◌++◌, ◌≤◌, ℕ, List, ◌∷◌, Some, true, false, drop, flat_map, length, take, MatchBool};
 ghost use Rattle.std.specs.List.{AllByRecursion};
 ghost use Rattle.std.specs.Io.KnownBytes.{Consumes, IsAtEnd};
 ghost use Rattle.trace_bench.specs.Stopping.{IsPrefixOf};
@@ -32,7 +32,7 @@ enum Compared {
 fn compare_next<R: Source>(papers: &mut Papers<R>, text: &[u8]) -> Compared
     ensures same { result ≡ Compared.Same → Consumes (⟦<ReadAhead<R> as Source>⟧.left papers.old.report)
         (⟦<ReadAhead<R> as Source>⟧.left papers.new.report) (ended text.now) }
-    ensures open { result ≡ Compared.Open → (part : List ℕ) × IsPrefixOf part text.now
+    ensures open { result ≡ Compared.Open → (part : List ℕ) × IsPrefixOf part text.now × IsText part
         × Consumes (⟦<ReadAhead<R> as Source>⟧.left papers.old.report) (⟦<ReadAhead<R> as Source>⟧.left papers.new.report) part
         × IsAtEnd (⟦<ReadAhead<R> as Source>⟧.left papers.new.report) }
     ensures only { (told : List ℕ) → IsText text.now → HasNext (⟦<ReadAhead<R> as Source>⟧.left papers.old.report) text.now told
@@ -95,7 +95,7 @@ fn rest_fits<D: Extension, R: Source>(number: u32, desk: &D, papers: &mut Papers
     ensures fits { result ≡ true → (rest : List ℕ) × (flat_map ended (D.texts desk.now) ≡ flat_map ended (take 1 (D.texts desk.now)) ++ rest)
         × Consumes (⟦<ReadAhead<R> as Source>⟧.left papers.old.report) (⟦<ReadAhead<R> as Source>⟧.left papers.new.report) rest }
     ensures open { result ≡ false → (n : ℕ) → papers.new.verdict ≡ Verdict.Stopped n → (rest : List ℕ)
-        × IsPrefixOf (flat_map ended (take 1 (D.texts desk.now)) ++ rest) (flat_map ended (D.texts desk.now))
+        × IsCutOf rest (drop 1 (D.texts desk.now))
         × Consumes (⟦<ReadAhead<R> as Source>⟧.left papers.old.report) (⟦<ReadAhead<R> as Source>⟧.left papers.new.report) rest
         × IsAtEnd (⟦<ReadAhead<R> as Source>⟧.left papers.new.report) }
     ensures in_own { result ≡ false → (n : ℕ) → papers.new.verdict ≢ Verdict.StoppedInOwn n }
@@ -127,8 +127,8 @@ pub(crate) fn answer_fits<D: Extension, R: Source>(
 ) -> bool
     ensures fits { result ≡ true → (rest : List ℕ) × (flat_map ended (D.texts desk.now) ≡ ended first.now ++ rest)
         × Consumes (⟦<ReadAhead<R> as Source>⟧.left papers.old.report) (⟦<ReadAhead<R> as Source>⟧.left papers.new.report) rest }
-    ensures open { result ≡ false → (n : ℕ) → papers.new.verdict ≡ Verdict.Stopped n → (rest : List ℕ)
-        × IsPrefixOf (ended first.now ++ rest) (flat_map ended (D.texts desk.now))
+    ensures open { result ≡ false → (n : ℕ) → papers.new.verdict ≡ Verdict.Stopped n → IsText first.now → (rest : List ℕ)
+        × IsCutOf (ended first.now ++ rest) (D.texts desk.now)
         × Consumes (⟦<ReadAhead<R> as Source>⟧.left papers.old.report) (⟦<ReadAhead<R> as Source>⟧.left papers.new.report) rest
         × IsAtEnd (⟦<ReadAhead<R> as Source>⟧.left papers.new.report) }
     ensures in_own { result ≡ false → (n : ℕ) → papers.new.verdict ≢ Verdict.StoppedInOwn n }
@@ -166,9 +166,9 @@ pub(crate) fn answer_begins<D: Extension, R: Source>(
 )
     ensures report { papers.new.report ≡ papers.old.report }
     ensures stopped { (n : ℕ) → papers.new.verdict ≡ Verdict.Stopped n
-        → (verdict ≡ Verdict.Stopped n) × IsPrefixOf prefix.now (flat_map ended (D.texts desk.now)) }
+        → (verdict ≡ Verdict.Stopped n) × (IsText prefix.now → IsCutOf prefix.now (D.texts desk.now)) }
     ensures in_own { (n : ℕ) → papers.new.verdict ≡ Verdict.StoppedInOwn n
-        → (verdict ≡ Verdict.StoppedInOwn n) × IsPrefixOf prefix.now (flat_map ended (D.texts desk.now)) }
+        → (verdict ≡ Verdict.StoppedInOwn n) × (IsText prefix.now → IsCutOf prefix.now (D.texts desk.now)) }
     ensures begins { (text : List ℕ) (more : List (List ℕ)) → D.texts desk.now ≡ text ∷ more → IsPrefixOf prefix.now text
         → papers.new.verdict ≡ verdict }
     ensures reach { papers.new.reach ≡ papers.old.reach }

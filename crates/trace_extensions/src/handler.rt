@@ -15,7 +15,7 @@ ghost use Rattle.trace_extensions.specs.Takes.{AtEachSeen};
 ghost use Rattle.trace_bench.specs.Seeing.{IsReady, audit_of, keeps};
 ghost use Rattle.trace_extensions.specs.Rates.{left_of};
 ghost use Rattle.trace_extensions.specs.Steps.{AuditWorld, audit_world, AuditStep, audit_lines};
-ghost use Rattle.trace_extensions.specs.Worlds.{AskedSo, AuditLeaves, DidAudit, EndsInOwn, ReadsInOwn};
+ghost use Rattle.trace_extensions.specs.Worlds.{AskedSo, AuditLeaves, DidAudit, ReadsInOwn, ReadsStop, StopsInOwn};
 ghost use Rattle.trace_extensions.specs.declared.papers.SideVerdict.{SideVerdict as Verdict};
 ghost use Rattle.trace_extensions.specs.AuditLaws.{audit_done, audit_fits};
 ghost use Rattle.line_extensions.specs.Wants.{MayAsk};
@@ -86,10 +86,10 @@ fn own_fits<R: Source, D: TracedExtension>(
         (world (place H (left_of rates.old)) desk.old) (audit_of auditor.new) (left_of rates.new) desk.new first TheNext.Say) }
     ensures fits { result ≡ true → (rest : List ℕ) × (flat_map ended (D.texts desk.new) ≡ ended answer.now ++ rest)
         × Consumes (⟦<ReadAhead<R> as Source>⟧.left papers.old.report) (⟦<ReadAhead<R> as Source>⟧.left papers.new.report) rest }
-    ensures stopped { result ≡ false → (n : ℕ) → papers.new.verdict ≡ Verdict.Stopped n → (rest : List ℕ)
+    ensures stopped { result ≡ false → (n : ℕ) → papers.new.verdict ≡ Verdict.Stopped n → IsText answer.now → (rest : List ℕ)
         × Consumes (⟦<ReadAhead<R> as Source>⟧.left papers.old.report) (⟦<ReadAhead<R> as Source>⟧.left papers.new.report) rest
         × IsAtEnd (⟦<ReadAhead<R> as Source>⟧.left papers.new.report)
-        × EndsInOwn ⟦<D as Extension>⟧ (audit_of auditor.old) (left_of rates.old) desk.old first (ended answer.now ++ rest)
+        × StopsInOwn ⟦<D as Extension>⟧ D.view D.model (audit_of auditor.old) (left_of rates.old) desk.old first (ended answer.now ++ rest)
         (audit_of auditor.new) desk.new }
     ensures in_own { result ≡ false → (n : ℕ) → papers.new.verdict ≢ Verdict.StoppedInOwn n }
     ensures only { AtEachSeen (audit_of auditor.old) (λ τ H. (mid : World Place D.View) (more : List (List ℕ)) (told : List ℕ)
@@ -151,8 +151,8 @@ fn own_line<R: Source, D: TracedExtension>(
         (world (place H (left_of rates.old)) desk.old) (audit_of auditor.new) (left_of rates.new) desk.new first TheNext.Say) }
     ensures fits { result ≡ true → Consumes (⟦<ReadAhead<R> as Source>⟧.left papers.old.report) (⟦<ReadAhead<R> as Source>⟧.left papers.new.report)
         (flat_map ended (D.texts desk.new)) }
-    ensures stopped { result ≡ false → (n : ℕ) → papers.new.verdict ≡ Verdict.Stopped n → ReadsInOwn ⟦<D as Extension>⟧ (audit_of auditor.old)
-        (left_of rates.old) desk.old first (⟦<ReadAhead<R> as Source>⟧.left papers.old.report) (audit_of auditor.new) desk.new
+    ensures stopped { result ≡ false → (n : ℕ) → papers.new.verdict ≡ Verdict.Stopped n → ReadsStop ⟦<D as Extension>⟧ D.view D.model
+        (audit_of auditor.old) (left_of rates.old) desk.old first (⟦<ReadAhead<R> as Source>⟧.left papers.old.report) (audit_of auditor.new) desk.new
         (⟦<ReadAhead<R> as Source>⟧.left papers.new.report) }
     ensures in_own { result ≡ false → (n : ℕ) → papers.new.verdict ≡ Verdict.StoppedInOwn n → ReadsInOwn ⟦<D as Extension>⟧ (audit_of auditor.old)
         (left_of rates.old) desk.old first (⟦<ReadAhead<R> as Source>⟧.left papers.old.report) (audit_of auditor.new) desk.new

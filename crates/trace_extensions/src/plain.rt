@@ -10,7 +10,7 @@ ghost use Rattle.trace_extensions.specs.Fits.{IsCutShort};
 ghost use Rattle.trace_bench.specs.Seeing.{IsReady, audit_of, keeps};
 ghost use Rattle.trace_extensions.specs.Rates.{left_of};
 ghost use Rattle.trace_runs.specs.Between.{SeesBetween};
-ghost use Rattle.trace_extensions.specs.Takes.{TakesLine, IsBegunAt, EndsWithin};
+ghost use Rattle.trace_extensions.specs.Takes.{TakesLine, IsBegunAt, EndsWithin, MayLeave};
 ghost use Rattle.trace_extensions.specs.declared.papers.SideVerdict.{SideVerdict as Verdict};
 
 use crate::papers::{Papers, SideVerdict};
@@ -76,7 +76,8 @@ fn stopped<R: Source>(
     ensures kept { keeps (audit_of auditor.new) ≡ keeps (audit_of auditor.old) }
     ensures report { papers.new.report ≡ papers.old.report }
     ensures begun { (n : ℕ) → papers.new.verdict ≡ Verdict.Stopped n
-        → IsBegunAt event.now prefix.now (left_of rates.now) (audit_of auditor.old) (audit_of auditor.new) × (length prefix.now ≤ 256) }
+        → IsBegunAt event.now prefix.now (left_of rates.now) (audit_of auditor.old) (audit_of auditor.new)
+        × MayLeave event.now prefix.now (left_of rates.now) (audit_of auditor.old) (audit_of auditor.new) × (length prefix.now ≤ 256) }
     ensures in_own { (n : ℕ) → papers.new.verdict ≢ Verdict.StoppedInOwn n }
     ensures missed { EachReply event.now (left_of rates.now) (audit_of auditor.old) (λ text. IsPrefixOf prefix.now text)
         (IsCutShort papers.new.verdict ⊎ (length prefix.now ≤ 256)) }

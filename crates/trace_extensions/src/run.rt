@@ -3,7 +3,7 @@ ghost use Rattle.std.specs.Prelude.{◌≡◌, ◌≢◌, ◌⊎◌, ℕ, [], So
 ghost use Rattle.std.specs.Io.KnownBytes.{Consumes, IsAtEnd};
 ghost use Rattle.trace_bench.specs.Seeing.{IsReady, audit_of, keeps};
 ghost use Rattle.trace_extensions.specs.Fits.{FitsIfLawful, LawfulIfFits, IsCutShort};
-ghost use Rattle.trace_extensions.specs.FitsStopped.{StoppedIfFits, StoppedInOwnIfFits};
+ghost use Rattle.trace_extensions.specs.FitsStopped.{FitsIfStopped, StoppedIfFits, StoppedInOwnIfFits};
 ghost use Rattle.trace_extensions.specs.Sides.{MayHaveRun, MayHaveStopped};
 ghost use Rattle.trace_extensions.specs.declared.papers.SideVerdict.{SideVerdict as Verdict};
 ghost use Rattle.trace_runs.specs.Verdicts.{status_of};
@@ -90,6 +90,8 @@ pub fn judge_side<S: Source, R: Source, D: TracedExtension>(
         (D.view desk.old) (D.view desk.new) (audit_of auditor.old) (audit_of auditor.new) result }
     ensures complete { LawfulIfFits D.model (⟦<ReadAhead<S> as Source>⟧.left script.old) (⟦<ReadAhead<R> as Source>⟧.left papers.old.report) rates.items
         (D.view desk.old) (D.view desk.new) (audit_of auditor.old) (audit_of auditor.new) result papers.old.reach }
+    ensures fits_stopped { FitsIfStopped D.model (⟦<ReadAhead<S> as Source>⟧.left script.old) (⟦<ReadAhead<R> as Source>⟧.left papers.old.report)
+        rates.items (D.view desk.old) (D.view desk.new) (audit_of auditor.old) (audit_of auditor.new) result papers.old.reach }
     ensures stops { StoppedIfFits D.model (⟦<ReadAhead<S> as Source>⟧.left script.old) (⟦<ReadAhead<R> as Source>⟧.left papers.old.report) rates.items
         (D.view desk.old) (D.view desk.new) (audit_of auditor.old) (audit_of auditor.new) result papers.old.reach }
     ensures own_stops { StoppedInOwnIfFits D.model (⟦<ReadAhead<S> as Source>⟧.left script.old) (⟦<ReadAhead<R> as Source>⟧.left papers.old.report)

@@ -11,13 +11,13 @@ ghost use Rattle.line_runs.specs.Lines.{IsOneLine};
 ghost use Rattle.trace_bench.specs.Seeing.{IsReady, Sees, audit_of, keeps};
 ghost use Rattle.trace_bench.specs.Stopping.{IsPrefixOf};
 ghost use Rattle.trace_extensions.specs.Exact.{EachOwnLeft, IsMet};
-ghost use Rattle.trace_extensions.specs.Fits.{IsCutShort, IsOpen, IsUnbegun};
+ghost use Rattle.trace_extensions.specs.Fits.{IsCutShort, IsOpen, IsText, IsUnbegun};
 ghost use Rattle.trace_extensions.specs.FitsStopped.{TellsOwnStop};
 ghost use Rattle.trace_extensions.specs.Models.{by_model, AreToldOf};
 ghost use Rattle.trace_extensions.specs.Places.{Place, place, MayStep};
 ghost use Rattle.trace_extensions.specs.Rates.{left_of};
 ghost use Rattle.trace_extensions.specs.Takes.{AtEachSeen, IsBegunAt};
-ghost use Rattle.trace_extensions.specs.Worlds.{EndsInOwn};
+ghost use Rattle.trace_extensions.specs.Worlds.{EndsInOwn, StopsInOwn};
 ghost use Rattle.trace_extensions.specs.declared.papers.SideVerdict.{SideVerdict as Verdict};
 ghost use Rattle.trace_extensions.specs.declared.taking.Miss.{Miss as TheMiss};
 
@@ -80,8 +80,8 @@ fn own_done<R: Source, D: TracedExtension>(
     ensures few { length (audit_of auditor.new).messages ≤ length (audit_of auditor.old).messages + 1 }
     ensures kept { keeps (audit_of auditor.new) ≡ keeps (audit_of auditor.old) }
     ensures report { papers.new.report ≡ papers.old.report }
-    ensures stopped { (n : ℕ) → papers.new.verdict ≡ Verdict.Stopped n → EndsInOwn ⟦<D as Extension>⟧ (audit_of auditor.old)
-        (left_of rates.old) desk.old first prefix.now (audit_of auditor.new) desk.new }
+    ensures stopped { (n : ℕ) → papers.new.verdict ≡ Verdict.Stopped n → IsText prefix.now → StopsInOwn ⟦<D as Extension>⟧ D.view D.model
+        (audit_of auditor.old) (left_of rates.old) desk.old first prefix.now (audit_of auditor.new) desk.new }
     ensures in_own { (n : ℕ) → papers.new.verdict ≢ Verdict.StoppedInOwn n }
     ensures stops { AtEachSeen (audit_of auditor.old) (λ τ H. (mid : World Place D.View) (text : List ℕ) (more : List (List ℕ)) (steps : List StepRecord)
         → Asks (by_model D.model) (MayStep τ) (world (place H (left_of rates.old)) (D.view desk.old)) mid first steps TheNext.Say
@@ -181,7 +181,7 @@ fn own_reached<R: Source, D: TracedExtension>(
     ensures kept { keeps (audit_of auditor.new) ≡ keeps (audit_of auditor.old) }
     ensures report { papers.new.report ≡ papers.old.report }
     ensures unstopped { (n : ℕ) → papers.new.verdict ≢ Verdict.Stopped n }
-    ensures in_own { (n : ℕ) → papers.new.verdict ≡ Verdict.StoppedInOwn n → EndsInOwn ⟦<D as Extension>⟧ (audit_of auditor.old)
+    ensures in_own { (n : ℕ) → papers.new.verdict ≡ Verdict.StoppedInOwn n → IsText prefix.now → EndsInOwn ⟦<D as Extension>⟧ (audit_of auditor.old)
         (left_of rates.old) desk.old first prefix.now (audit_of auditor.new) desk.new }
     ensures reach { papers.new.reach ≡ papers.old.reach }
 {
@@ -222,9 +222,9 @@ pub(crate) fn own_begun<R: Source, D: TracedExtension>(
     ensures few { length (audit_of auditor.new).messages ≤ length (audit_of auditor.old).messages + 1 }
     ensures kept { keeps (audit_of auditor.new) ≡ keeps (audit_of auditor.old) }
     ensures report { papers.new.report ≡ papers.old.report }
-    ensures stopped { (n : ℕ) → papers.new.verdict ≡ Verdict.Stopped n → EndsInOwn ⟦<D as Extension>⟧ (audit_of auditor.old)
-        (left_of rates.old) desk.old first prefix.now (audit_of auditor.new) desk.new }
-    ensures in_own { (n : ℕ) → papers.new.verdict ≡ Verdict.StoppedInOwn n → EndsInOwn ⟦<D as Extension>⟧ (audit_of auditor.old)
+    ensures stopped { (n : ℕ) → papers.new.verdict ≡ Verdict.Stopped n → IsText prefix.now → StopsInOwn ⟦<D as Extension>⟧ D.view D.model
+        (audit_of auditor.old) (left_of rates.old) desk.old first prefix.now (audit_of auditor.new) desk.new }
+    ensures in_own { (n : ℕ) → papers.new.verdict ≡ Verdict.StoppedInOwn n → IsText prefix.now → EndsInOwn ⟦<D as Extension>⟧ (audit_of auditor.old)
         (left_of rates.old) desk.old first prefix.now (audit_of auditor.new) desk.new }
     ensures stops { IsOneLine prefix.now → AtEachSeen (audit_of auditor.old) (λ τ H. EachOwnLeft D.model τ (place H (left_of rates.old))
         (D.view desk.old) first prefix.now

@@ -1,9 +1,9 @@
-use Rattle.std.proofs.Common.{inl, ℕ, List, subst, length, take, drop, true≢false, refl, sym, ◌∙◌}
+use Rattle.std.proofs.Common.{inl, ℕ, List, [], arith, subst, length, take, drop, true≢false, refl, sym, ◌∙◌}
 use Rattle.std.proofs.lemmas.Bool.Decides.{Decides-eqb}
 use Rattle.std.proofs.lemmas.Slice.Eq.{slice_eq-Decides, starts_is}
 use Rattle.trace_bench.specs.Stopping.{IsPrefixOf}
 use Rattle.trace_extensions.specs.Fits.{IsText}
-use Rattle.trace_extensions.proofs.Compared.{cut_line}
+use Rattle.trace_extensions.proofs.Compared.{cut_line, no_line}
 use Rattle.trace_extensions.proofs.Cuts.{within_line, not_whole, not_so_long}
 use Rattle.trace_extensions.proofs.Lines.{take_short, same_line, not_within, not_at_end, not_long}
 use Rattle.trace_extensions.proofs.comparing.compare_next.Goals as goal
@@ -14,7 +14,13 @@ returns-then-starts_with-clause-open g c = λ same.
     let line = take c.in-Line-default-false.len c.read_line.new.buf in
     let w = cut_line _ _ c.in-Line-default-false.field-1 line t.0 c.in-Line-default-false.field-1-test t.2.2 t.1 in
     let d = starts_is Decides-eqb c.args.text.now line c.starts_with.result c.starts_with.ensures.value in
-    (line, (drop (length line) c.args.text.now, d.0 c.if-starts_with.true), w.0, w.1)
+    (line, (drop (length line) c.args.text.now, d.0 c.if-starts_with.true), record { one = t.2.1; short = take_short c.in-Line-default-false.len c.read_line.new.buf t.2.0 }, w.0, w.1)
+
+pub returns-in-End-clause-open : goal.returns-in-End-clause-open
+returns-in-End-clause-open g c = λ same.
+    let t = c.in-End.ensures.taken in
+    let w = no_line _ _ t.0 t.2.0 t.1 t.2.1 in
+    ([], (c.args.text.now, refl), record { one = tt; short = omega arith }, w.0, w.1)
 
 pub returns-then-eq-clause-only : goal.returns-then-eq-clause-only
 returns-then-eq-clause-only g c = λ told text has.

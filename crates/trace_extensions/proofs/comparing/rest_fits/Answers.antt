@@ -75,12 +75,12 @@ pub returns-then-not-is_same-clause-open : goal.returns-then-not-is_same-clause-
 returns-then-not-is_same-clause-open g c = λ no n stop.
     let texts = g.D.Extension.texts c.args.desk.now in
     let o = c.compare_next-compared.ensures.open (c.is_same.ensures.open c.if-not-is_same.true n stop) in
-    let w = read_within texts c.loop-at.at c.put.new.line c.as_slice.result.now o.0 _ _ _ c.put.ensures.text c.as_slice.ensures c.loop-at.invariant.read o.1 o.2 in
-    subst (λ r. (rest : List ℕ) × IsPrefixOf (flat_map ended (take 1 texts) ++ rest) (flat_map ended texts)
+    let w = read_within texts c.loop-at.at c.put.new.line c.as_slice.result.now o.0 _ _ _ c.put.ensures.text c.as_slice.ensures c.loop-at.invariant.some c.loop-at.invariant.lines c.loop-at.invariant.read o.1 o.2 o.3 in
+    subst (λ r. (rest : List ℕ) × IsCutOf rest (drop 1 texts)
     × Consumes (prepend_known (take (c.args.papers.now.report.end - c.args.papers.now.report.at) (drop c.args.papers.now.report.at c.args.papers.now.report.buffer.items)) (g.R.Source.left c.args.papers.now.report.inner))
     (prepend_known (take (r.end - r.at) (drop r.at r.buffer.items)) (g.R.Source.left r.inner)) rest
     × IsAtEnd (prepend_known (take (r.end - r.at) (drop r.at r.buffer.items)) (g.R.Source.left r.inner))) (sym c.is_same.ensures.report)
-    (w.0, w.1, w.2, o.3)
+    (w.0, w.1, w.2, o.4)
 
 pub returns-then-not-is_same-clause-only : goal.returns-then-not-is_same-clause-only
 returns-then-not-is_same-clause-only g c = λ first more told are each is.

@@ -1,4 +1,4 @@
-use Rattle.std.proofs.Common.{◌≡◌, ◌-◌, ◌++◌, List, [], ℕ, Bool, true, Option, take, drop, flat_map, refl, sym, subst}
+use Rattle.std.proofs.Common.{arith, ◌≡◌, ◌-◌, ◌++◌, List, [], ℕ, Bool, true, Option, take, drop, flat_map, refl, sym, subst}
 use Rattle.std.specs.Io.KnownBytes.{Consumes, IsAtEnd, prepend_known}
 use Rattle.std.proofs.KnownBytes.{Consumes-trans}
 use Rattle.line_runs.specs.Lines.{ended, IsLineIn}
@@ -29,7 +29,7 @@ returns-in-Line-default-true-clause-fits g c = λ fits.
 
 pub returns-in-Line-default-true-clause-stopped : goal.returns-in-Line-default-true-clause-stopped
 returns-in-Line-default-true-clause-stopped g c = λ no n stop.
-    let w = c.own_fits.ensures.stopped no n stop in
+    let w = c.own_fits.ensures.stopped no n stop (record { one = c.in-Line-default-true.ensures.taken.2.1; short = take_short c.in-Line-default-true.len c.read_line.new.buf c.in-Line-default-true.ensures.taken.2.0 }) in
     let read = c.in-Line-default-true.ensures.taken in
     let line = take c.in-Line-default-true.len c.read_line.new.buf in (
       ended line ++ w.0,
@@ -45,7 +45,7 @@ returns-in-Line-default-false-clause-stopped g c = λ no n stop.
     let w = cut_line _ _ c.in-Line-default-false.field-1 line read.0 c.in-Line-default-false.field-1-test read.2.2 read.1 in
     let same = (subst (λ r. Consumes (prepend_known (take (c.args.papers.now.report.end - c.args.papers.now.report.at) (drop c.args.papers.now.report.at c.args.papers.now.report.buffer.items)) (g.R.Source.left c.args.papers.now.report.inner))
     (prepend_known (take (r.end - r.at) (drop r.at r.buffer.items)) (g.R.Source.left r.inner)) line × IsAtEnd (prepend_known (take (r.end - r.at) (drop r.at r.buffer.items)) (g.R.Source.left r.inner))) (sym c.own_begun.ensures.report) w) in
-    (line, same.0, same.1, c.own_begun.ensures.stopped n stop)
+    (line, same.0, same.1, c.own_begun.ensures.stopped n stop (record { one = read.2.1; short = take_short c.in-Line-default-false.len c.read_line.new.buf read.2.0 }))
 
 pub returns-in-End-clause-stopped : goal.returns-in-End-clause-stopped
 returns-in-End-clause-stopped g c = λ no n stop.
@@ -53,7 +53,7 @@ returns-in-End-clause-stopped g c = λ no n stop.
     let same = (subst (λ r. Consumes (prepend_known (take (c.args.papers.now.report.end - c.args.papers.now.report.at) (drop c.args.papers.now.report.at c.args.papers.now.report.buffer.items)) (g.R.Source.left c.args.papers.now.report.inner))
     (prepend_known (take (r.end - r.at) (drop r.at r.buffer.items)) (g.R.Source.left r.inner)) [] × IsAtEnd (prepend_known (take (r.end - r.at) (drop r.at r.buffer.items)) (g.R.Source.left r.inner))) (sym c.own_begun-in-End.ensures.report)
     (no_line _ _ read.0 read.2.0 read.1 read.2.1)) in
-    ([], same.0, same.1, c.own_begun-in-End.ensures.stopped n stop)
+    ([], same.0, same.1, c.own_begun-in-End.ensures.stopped n stop (record { one = tt; short = omega arith }))
 
 pub returns-in-Line-default-false-clause-in_own : goal.returns-in-Line-default-false-clause-in_own
 returns-in-Line-default-false-clause-in_own g c = λ no n stop.
@@ -62,7 +62,7 @@ returns-in-Line-default-false-clause-in_own g c = λ no n stop.
     let w = cut_line _ _ c.in-Line-default-false.field-1 line read.0 c.in-Line-default-false.field-1-test read.2.2 read.1 in
     let same = (subst (λ r. Consumes (prepend_known (take (c.args.papers.now.report.end - c.args.papers.now.report.at) (drop c.args.papers.now.report.at c.args.papers.now.report.buffer.items)) (g.R.Source.left c.args.papers.now.report.inner))
     (prepend_known (take (r.end - r.at) (drop r.at r.buffer.items)) (g.R.Source.left r.inner)) line × IsAtEnd (prepend_known (take (r.end - r.at) (drop r.at r.buffer.items)) (g.R.Source.left r.inner))) (sym c.own_begun.ensures.report) w) in
-    (line, same.0, same.1, c.own_begun.ensures.in_own n stop)
+    (line, same.0, same.1, c.own_begun.ensures.in_own n stop (record { one = read.2.1; short = take_short c.in-Line-default-false.len c.read_line.new.buf read.2.0 }))
 
 pub returns-in-End-clause-in_own : goal.returns-in-End-clause-in_own
 returns-in-End-clause-in_own g c = λ no n stop.
@@ -70,7 +70,7 @@ returns-in-End-clause-in_own g c = λ no n stop.
     let same = (subst (λ r. Consumes (prepend_known (take (c.args.papers.now.report.end - c.args.papers.now.report.at) (drop c.args.papers.now.report.at c.args.papers.now.report.buffer.items)) (g.R.Source.left c.args.papers.now.report.inner))
     (prepend_known (take (r.end - r.at) (drop r.at r.buffer.items)) (g.R.Source.left r.inner)) [] × IsAtEnd (prepend_known (take (r.end - r.at) (drop r.at r.buffer.items)) (g.R.Source.left r.inner))) (sym c.own_begun-in-End.ensures.report)
     (no_line _ _ read.0 read.2.0 read.1 read.2.1)) in
-    ([], same.0, same.1, c.own_begun-in-End.ensures.in_own n stop)
+    ([], same.0, same.1, c.own_begun-in-End.ensures.in_own n stop (record { one = tt; short = omega arith }))
 
 pub returns-in-Line-default-true-clause-only : goal.returns-in-Line-default-true-clause-only
 returns-in-Line-default-true-clause-only g c = λ τ H texts history sees mid text more told steps may next.

@@ -1,9 +1,11 @@
-use Rattle.std.proofs.Common.{inr, ℕ, List, ◌++◌, take, sym, ap, ◌∙◌, subst, append_assoc}
+use Rattle.std.specs.Io.KnownBytes.{Consumes, IsAtEnd, prepend_known}
+use Rattle.std.proofs.Common.{inr, ℕ, ◌-◌, List, ◌++◌, take, drop, sym, ap, ◌∙◌, subst, append_assoc}
 use Rattle.script_text.specs.Texts.{text_of}
 use Rattle.trace_bench.specs.Stopping.{IsPrefixOf}
 use Rattle.trace_runs.specs.Fitting.{BeginsTold}
 use Rattle.trace_runs.specs.Runs.{StopLeaves}
 use Rattle.trace_extensions.specs.Rates.{left_of}
+use Rattle.trace_extensions.proofs.Compared.{cut_line}
 use Rattle.trace_extensions.proofs.Cuts.{within_line, none_left, not_whole, long_front}
 use Rattle.trace_extensions.proofs.EventStops.{told_one}
 use Rattle.trace_extensions.proofs.Lines.{one_text_line, same_line, not_within, not_at_end, begins_line, long_missed}
@@ -65,3 +67,13 @@ returns-in-Long-clause-stops g c = λ told report τ H texts history sees K begi
     let w = long_front _ _ told report t.0 t.1 in
     let front : IsPrefixOf t.0 (text_of begins.0.reply) = (w.0 ++ begins.3.0, begins.3.1 ∙ ap (λ (l : List ℕ). l ++ begins.3.0) w.1 ∙ append_assoc t.0 w.0 begins.3.0) in
     inr (long_missed _ t.0 c.read_line.new.buf (text_of begins.0.reply) front t.2.1 t.2.2 (λ short. c.stopped-in-Long.ensures.missed τ H texts history sees begins.0 begins.1 begins.2 short))
+
+pub returns-in-Line-default-false-clause-begun : goal.returns-in-Line-default-false-clause-begun
+returns-in-Line-default-false-clause-begun g c = λ n is.
+    let t = c.in-Line-default-false.ensures.taken in
+    let line = take c.in-Line-default-false.len c.read_line.new.buf in
+    let w = cut_line _ _ c.in-Line-default-false.field-1 line t.0 c.in-Line-default-false.field-1-test t.2.2 t.1 in
+    let same = (subst (λ r. Consumes (prepend_known (take (c.args.papers.now.report.end - c.args.papers.now.report.at) (drop c.args.papers.now.report.at c.args.papers.now.report.buffer.items)) (g.R.Source.left c.args.papers.now.report.inner))
+    (prepend_known (take (r.end - r.at) (drop r.at r.buffer.items)) (g.R.Source.left r.inner)) line × IsAtEnd (prepend_known (take (r.end - r.at) (drop r.at r.buffer.items)) (g.R.Source.left r.inner))) (sym c.stopped.ensures.report) w) in
+    let begun = c.stopped.ensures.begun n is in
+    (line, begun.0, begun.1, same.0, same.1)

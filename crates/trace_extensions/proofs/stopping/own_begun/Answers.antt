@@ -1,8 +1,9 @@
-use Rattle.std.proofs.Common.{refl, sym, ◌∙◌, true≢false}
+use Rattle.std.proofs.Common.{inr, None, refl, sym, ◌∙◌, true≢false}
 use Rattle.trace_bench.specs.Seeing.{audit_of}
 use Rattle.trace_extensions.specs.Places.{place}
+use Rattle.trace_extensions.specs.declared.papers.SideVerdict.TheVariants.{Stopped}
 use Rattle.trace_extensions.specs.Rates.{left_of}
-use Rattle.trace_extensions.proofs.OwnStops.{idle_stop, known_stop, idle_left, no_bytes, some_bytes}
+use Rattle.trace_extensions.proofs.OwnStops.{first_alike, idle_stop, known_stop, no_bytes, some_bytes}
 use Rattle.trace_extensions.proofs.stopping.own_begun.Goals.{else-is_empty-via-then-is_empty+else-is_step, else-is_empty-via-else-is_empty}
 use Rattle.trace_extensions.proofs.stopping.own_begun.Goals as goal
 
@@ -13,8 +14,17 @@ returns-then-is_step-clause-stops g c = λ one τ H texts history sees v line K 
     (λ none old new line steps next did first desk. c.is_in_doubt.ensures.idle c.if-not-is_in_doubt.true none τ old new line steps next did first desk) (no_bytes c.args.prefix.now (c.if-is_empty.ensures)) sees c.end.ensures.verdict v line K kept begins goes stop
 
 pub returns-then-is_step-clause-stopped : goal.returns-then-is_step-clause-stopped
-returns-then-is_step-clause-stopped g c = λ n is τ H texts history sees.
-    idle_left g.D.Extension τ (place H (left_of c.args.rates.now)) c.args.desk.now c.args.first c.args.prefix.now (audit_of c.args.auditor.now) (c.if-is_step.ensures.0 refl) (no_bytes c.args.prefix.now (c.if-is_empty.ensures)) history sees
+returns-then-is_step-clause-stopped g c = λ n is text τ H texts history sees.
+    let none = no_bytes c.args.prefix.now c.if-is_empty.ensures in
+    inr (record {
+      step = c.if-is_step.ensures.0 refl;
+      silent = none;
+      sees = sees;
+      stays = refl;
+      alike = λ v line begins. first_alike g.D.TracedExtension.model c.laws.ensures.determined c.laws.ensures.alike g.D.TracedExtension.Fails (λ τ old new own steps did. c.laws.ensures.tells τ old new own steps did) g.D.TracedExtension.view c.args.number None
+          (Stopped n) (audit_of c.args.auditor.now) τ (place H (left_of c.args.rates.now)) (g.D.TracedExtension.view c.args.desk.now) c.args.first c.args.prefix.now
+          (λ none old new line steps next did first desk. c.is_in_doubt.ensures.idle c.if-not-is_in_doubt.true none τ old new line steps next did first desk) none v line begins;
+    })
 
 pub returns-then-not-is_in_doubt-clause-stops : goal.returns-then-not-is_in_doubt-clause-stops
 returns-then-not-is_in_doubt-clause-stops g c = λ one τ H texts history sees v line K kept begins goes stop.

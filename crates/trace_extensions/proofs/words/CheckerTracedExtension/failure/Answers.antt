@@ -1,5 +1,4 @@
-use Rattle.std.proofs.Common.{◌≡◌, ◌∙◌, ◌++◌, List, ℕ, Option, Some, None, IfSome, IfNone, drop, length, sym, ap}
-use Rattle.std.proofs.Math.Seq.{drop-append_seam}
+use Rattle.std.proofs.Common.{◌≡◌, ◌∙◌, ◌++◌, List, ℕ, Option, Some, None, IfSome, IfNone, sym, ap}
 use Rattle.std.proofs.lemmas.Bool.Decides.{Decides-eqb}
 use Rattle.std.proofs.lemmas.Slice.Eq.{strip_prefix_is}
 use Rattle.bench_base.specs.declared.{words.Node.TheVariants.Verifier, events.Reply.Reply}
@@ -7,6 +6,7 @@ use Rattle.script_text.specs.Texts.{text_of}
 use Rattle.mail_manifest.specs.Texts.{no_piece_text}
 use Rattle.trace_bench.specs.Prefixes.{IsFailure}
 use Rattle.trace_extensions.specs.ManifestModel.{no_piece_front}
+use Rattle.trace_extensions.proofs.Compared.{same_rest}
 use Rattle.trace_extensions.proofs.ManifestModel.{front_text}
 use Rattle.trace_extensions.proofs.words.CheckerTracedExtension.failure.Goals as goal
 
@@ -17,9 +17,6 @@ if_some (Some x) P Q f p = f x p
 if_none : {X : Type 0} (o : Option X) (P Q : Type 0) → (P → Q) → IfNone o P → IfNone o Q
 if_none None P Q f p = f p
 if_none (Some x) P Q f p = tt
-
-same_rest : (front a b : List ℕ) → front ++ a ≡ front ++ b → a ≡ b
-same_rest front a b is = sym (drop-append_seam front a) ∙ ap (λ (l : List ℕ). drop (length front) l) is ∙ drop-append_seam front b
 
 pub returns-in-Some-clause-found : goal.returns-in-Some-clause-found
 returns-in-Some-clause-found c =
