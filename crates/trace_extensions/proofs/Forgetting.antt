@@ -7,10 +7,13 @@ use Rattle.line_runs.specs.declared.status.Status.{Status}
 use Rattle.line_extensions.specs.Trace.{StepRecord, Skipped, Did}
 use Rattle.line_extensions.specs.Desks.{World, world, Asks, DidOwn, DoesOne, Does}
 use Rattle.line_extensions.specs.SideTrace.{SideStep, Plain, Own, Broken}
-use Rattle.line_extensions.specs.declared.{extension.Next.Next}
+use Rattle.line_extensions.specs.declared.{extension.Next.Next, extension.Next.TheVariants.Step, extension.Next.TheVariants.Say}
+use Rattle.trace_runs.specs.Fitting.{BeginsTold}
+use Rattle.trace_runs.specs.Runs.{StopLeaves}
 use Rattle.trace_extensions.specs.Fits.{FitsSo}
+use Rattle.trace_extensions.specs.FitsStopped.{EventStopped, OwnStopped, not_begun, all_of_it, part_of_it, FitsStopped}
 use Rattle.trace_extensions.specs.Models.{Model, by_model}
-use Rattle.trace_extensions.specs.Places.{place, MayStep}
+use Rattle.trace_extensions.specs.Places.{Place, place, MayStep}
 
 pub record Forgets {V : Type 0} (m : Model V) (Like : V → V → Type 0) : Type 0 where
   pub same : (a : V) → Like a a
@@ -79,4 +82,95 @@ module _ {V : Type 0} (m : Model V) (Like : V → V → Type 0) (f : Forgets m L
         },
         also.2,
         also.3,
+      )
+
+  -- == a run that was stopped ==
+
+  module _ (τ : Tariff) (s t : World Place V) (line told : List ℕ) (L : Ledger) (kept : V) (at : s.scene ≡ t.scene) (like : Like s.desk t.desk) where
+    -- the same stop, from the other view
+    abbrev Too : (World Place V → List ℕ → List ℕ → Ledger → V → Type 0) → Type 0
+    Too AtLine = (held : V) × AtLine t line told L held × Like kept held
+
+    pub event_at : EventStopped m τ s line told L kept → Too (λ at line told L kept. EventStopped m τ at line told L kept)
+    event_at x = (
+      t.desk,
+      record {
+        event = x.event;
+        is = x.is;
+        passes = f.passes s.desk t.desk line like x.passes;
+        begins = subst (λ (p : Place). BeginsTold τ p.ledger p.left x.event told) at x.begins;
+        leaves = subst (λ (p : Place). StopLeaves τ p.ledger x.event p.left told L) at x.leaves;
+        stays = refl;
+      },
+      subst (λ (v : V). Like v t.desk) (sym x.stays) like,
+    )
+
+    pub own_at : OwnStopped m τ s line told L kept → Too (λ at line told L kept. OwnStopped m τ at line told L kept)
+    own_at (not_begun is x) = (
+      t.desk,
+      not_begun is (record {
+        first = x.first;
+        desk = x.desk;
+        begins = f.begins s.desk t.desk x.desk line x.first like x.begins;
+        silent = x.silent;
+        ledger = x.ledger ∙ ap (λ (p : Place). p.ledger) at;
+        stays = refl;
+      }),
+      subst (λ (v : V). Like v t.desk) (sym x.stays) like,
+    )
+    own_at (all_of_it is x) = (
+      kept,
+      all_of_it is (record {
+        steps = x.steps;
+        behind = x.behind;
+        did = own_does (MayStep τ) s x.behind t line x.steps Say at like x.did;
+        cut = x.cut;
+        ledger = x.ledger;
+        keeps = x.keeps;
+      }),
+      f.same kept,
+    )
+    own_at (part_of_it is x) = (
+      kept,
+      part_of_it is (record {
+        steps = x.steps;
+        behind = x.behind;
+        event = x.event;
+        did = own_does (MayStep τ) s x.behind t line x.steps (Step x.event) at like x.did;
+        silent = x.silent;
+        whole = x.whole;
+        unforged = x.unforged;
+        leaves = x.leaves;
+        keeps = x.keeps;
+      }),
+      f.same kept,
+    )
+
+  -- so a run that may have been stopped so from the one may from the other, with the same ledger behind it
+  pub stopped_from : (AtLine : World Place V → List ℕ → List ℕ → Ledger → V → Type 0) (τ : Tariff) (H : Ledger) (script report rates : List ℕ) (v w : V)
+      → ((s t : World Place V) (line told : List ℕ) (L : Ledger) (kept : V) → s.scene ≡ t.scene → Like s.desk t.desk → AtLine s line told L kept → (held : V) × AtLine t line told L held × Like kept held)
+      → Like v w → (fits : FitsStopped m AtLine τ H script report rates v) → (g : FitsStopped m AtLine τ H script report rates w) × (fits.ledger ≡ g.ledger) × Like fits.kept g.kept
+  stopped_from AtLine τ H script report rates v w too like fits =
+      let also = all_do (MayStep τ) (world (place H rates) v) fits.behind (world (place H rates) w) fits.trace refl like fits.does in
+      let stop = too fits.behind also.0 fits.line fits.told fits.ledger fits.kept also.2 also.3 fits.stop in (
+        record {
+          trace = fits.trace;
+          each = fits.each;
+          go_on = fits.go_on;
+          few = fits.few;
+          behind = also.0;
+          does = also.1;
+          texts = fits.texts;
+          line = fits.line;
+          short = fits.short;
+          rest = fits.rest;
+          script_is = fits.script_is;
+          told = fits.told;
+          report_is = fits.report_is;
+          ledger = fits.ledger;
+          kept = stop.0;
+          stop = stop.1;
+        },
+        refl,
+        stop.2,
       )

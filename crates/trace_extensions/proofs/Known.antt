@@ -7,7 +7,7 @@ use Rattle.line_extensions.specs.Desks.{world}
 use Rattle.line_extensions.specs.declared.{extension.Extension.Ghosts, extension.Next.Next, extension.Next.TheVariants.Stop}
 use Rattle.trace_bench.specs.Seeing.{Audit}
 use Rattle.trace_runs.proofs.Alike.{between}
-use Rattle.trace_extensions.specs.FitsStopped.{IsCutOf, StopFits, not_begun, all_of_it}
+use Rattle.trace_extensions.specs.FitsStopped.{IsCutOf, StopFits, at_own_line, not_begun, all_of_it}
 use Rattle.trace_extensions.specs.Models.{Model, AreAlike, IsModelOf}
 use Rattle.trace_extensions.specs.Places.{Place, MayStep}
 use Rattle.trace_extensions.specs.Worlds.{LeftSo, all_asked, KnownSo}
@@ -30,7 +30,7 @@ module _ {K T : Type 0} (k : Ghosts K T) {V : Type 0} (view : K → V) (m : Mode
         let new = all.asked.new in record {
           ledger = new.scene.ledger;
           kept = view new.desk;
-          stop = inr (all_of_it ((modelled.own line).1 (own, is)) (record {
+          stop = at_own_line (all_of_it ((modelled.own line).1 (own, is)) (record {
             steps = all.asked.steps;
             behind = world new.scene (view new.desk);
             did = record {
@@ -51,7 +51,7 @@ module _ {K T : Type 0} (k : Ghosts K T) {V : Type 0} (view : K → V) (m : Mode
         let began : m.Begins (view desk) line first (view mid) = modelled.begins desk mid own line first is begins goes in record {
           ledger = scene.ledger;
           kept = view desk;
-          stop = inr (not_begun ((modelled.own line).1 (own, is)) (record { first = first; desk = view mid; begins = began; silent = rested.silent; ledger = refl; stays = refl }));
+          stop = at_own_line (not_begun ((modelled.own line).1 (own, is)) (record { first = first; desk = view mid; begins = began; silent = rested.silent; ledger = refl; stays = refl }));
           history = history;
           sees = between audit scene.ledger rested.sees;
           alike = subst (λ (d : K). m.Alike (view d) (view desk)) (sym rested.stays) (rested.alike (view desk) line began);

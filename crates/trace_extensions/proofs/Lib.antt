@@ -28,6 +28,7 @@ pub mod Said
 pub mod Settled
 pub mod SameStep
 pub mod StatementModel
+pub mod StopHistories
 pub mod Stopped
 pub mod StoppedFits
 pub mod StoppedRuns

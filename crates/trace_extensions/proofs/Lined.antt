@@ -29,7 +29,7 @@ use Rattle.trace_runs.specs.Fitting.{BeginsTold}
 use Rattle.trace_runs.specs.Runs.{StopLeaves}
 use Rattle.trace_extensions.specs.Exact.{EachReply, HasNext, MayBe, EachMayBe, MayAnswer, IsMet, EachLeft, EachOwnLeft, NoStop, TellsStops}
 use Rattle.trace_extensions.specs.Fits.{IsCutShort, IsOpen, IsText}
-use Rattle.trace_extensions.specs.FitsStopped.{IsCutOf, EventStopped, OwnStopped, not_begun, all_of_it, part_of_it, TellsStop, TellsOwnStop}
+use Rattle.trace_extensions.specs.FitsStopped.{IsCutOf, at_event, EventStopped, OwnStopped, not_begun, all_of_it, part_of_it, TellsStop, TellsOwnStop}
 use Rattle.trace_extensions.specs.Models.{Model, by_model, AreAlike, IsModelOf, IsDetermined, TellsFailures}
 use Rattle.trace_extensions.specs.Places.{Place, place, turn_at, MayStep}
 use Rattle.trace_extensions.specs.Steps.{AuditWorld, audit_world, IsStop, IsKnown, Passed, Heard, Own, Begun, Ended, audit_lines}
@@ -226,7 +226,7 @@ module _ {K T : Type 0} (k : Ghosts K T) {V : Type 0} (view : K → V) (m : Mode
                   λ n said. record {
                     ledger = x.0;
                     kept = view old.desk;
-                    stop = inl (record { event = e; is = is; passes = modelled.passes old.desk line passes; begins = x.1; leaves = x.2; stays = refl });
+                    stop = at_event (record { event = e; is = is; passes = modelled.passes old.desk line passes; begins = x.1; leaves = x.2; stays = refl });
                     history = x.3;
                     sees = x.4;
                     alike = subst (λ (d : K). m.Alike (view d) (view old.desk)) (sym same) (alike.same (view old.desk));

@@ -1,5 +1,5 @@
 -- A run that is called stopped may have been stopped so, by the model of the extension.
-use Rattle.std.proofs.Common.{◌≡◌, ◌⊎◌, inl, ℕ, ◌+◌, ◌≤◌, List, [], ◌∷◌, ◌++◌, length, map, Option, Some, None, refl, sym, ◌∙◌, ap, subst}
+use Rattle.std.proofs.Common.{◌≡◌, inl, ℕ, ◌+◌, ◌≤◌, List, [], ◌∷◌, ◌++◌, length, map, Option, Some, None, refl, sym, ◌∙◌, ap, subst}
 use Rattle.std.proofs.KnownBytes.{Consumes-trans}
 use Rattle.std.specs.Io.KnownBytes.{Consumes}
 use Rattle.std.specs.List.{AllByRecursion}
@@ -19,7 +19,7 @@ use Rattle.line_extensions.specs.Wants.{IsAlone}
 use Rattle.line_extensions.specs.declared.extension.Extension.{Ghosts}
 use Rattle.trace_bench.specs.Seeing.{Audit, Sees}
 use Rattle.trace_runs.specs.Between.{SeesBetween}
-use Rattle.trace_extensions.specs.FitsStopped.{EventStopped, OwnStopped, FitsStopped, StopFits, FitsIfStopped}
+use Rattle.trace_extensions.specs.FitsStopped.{StopsAt, FitsStopped, StopFits, FitsIfStopped}
 use Rattle.trace_extensions.specs.Models.{Model, by_model, IsModelOf}
 use Rattle.trace_extensions.specs.Places.{place, MayStep}
 use Rattle.trace_extensions.specs.Steps.{AuditWorld, AuditStep, IsStop, Passed, Heard, Begun, Ended, audit_line, audit_lines, AuditEnds}
@@ -51,7 +51,7 @@ module _ {K T : Type 0} (k : Ghosts K T) {V : Type 0} (view : K → V) (m : Mode
   -- a run that fits, with what it leaves
   abbrev FitsHere : AuditWorld K → AuditWorld K → List ℕ → Tariff → Ledger → List ℕ → List ℕ → Type 0
   FitsHere w0 w1 rates τ H script report =
-      (fits : FitsStopped m (λ at line told L kept. EventStopped m τ at line told L kept ⊎ OwnStopped m τ at line told L kept) τ H script report rates (view w0.desk))
+      (fits : FitsStopped m (λ at line told L kept. StopsAt m τ at line told L kept) τ H script report rates (view w0.desk))
       × History τ editions fits.ledger × SeesBetween w1.audit fits.ledger × m.Alike (view w1.desk) fits.kept
 
   module _ (script behind : List ℕ) (t0 t1 : Option (List ℕ)) (w0 w1 : AuditWorld K)

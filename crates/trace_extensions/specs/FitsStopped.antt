@@ -2,6 +2,7 @@
 use Rattle.std.specs.Prelude.{◌≡◌, ◌⊎◌, ℕ, ◌+◌, ◌≤◌, List, [], ◌∷◌, ◌++◌, Option, None, length, map}
 use Rattle.std.specs.List.{AllByRecursion}
 use Rattle.bench_base.specs.declared.events.Event.{Event}
+use Rattle.bench_base.specs.Events.{IsWholeEvent}
 use Rattle.bench_base.specs.Ledger.{Ledger}
 use Rattle.bench_base.specs.Rules.{editions}
 use Rattle.ledger_moves.specs.Tariffs.{Tariff}
@@ -67,6 +68,7 @@ module _ {V : Type 0} (m : Model V) (τ : Tariff) (at : World Place V) (line tol
     pub event : Event
     pub did : DidOwn (by_model m) (MayStep τ) at behind line steps (Step event)
     pub silent : told ≡ []
+    pub whole : IsWholeEvent event
     pub unforged : Unforged event behind.scene.ledger
     pub leaves : StopLeaves τ behind.scene.ledger event behind.scene.left [] K
     pub keeps : kept ≡ behind.desk
@@ -77,7 +79,16 @@ module _ {V : Type 0} (m : Model V) (τ : Tariff) (at : World Place V) (line tol
     all_of_it : m.IsOwn line → AllDone → OwnStopped
     part_of_it : m.IsOwn line → StepAsked → OwnStopped
 
+  -- it is the one or the other
+  pub data StopsAt : Type 0 where
+    at_event : EventStopped → StopsAt
+    at_own_line : OwnStopped → StopsAt
+
 -- == of a run ==
+
+-- The audit was cut short, or the run is in doubt. It says nothing of a verdict by a reach.
+abbrev pub IsUndecided : Option Reach → SideVerdict → Type 0
+IsUndecided reach verdict = (reach ≡ None → IsCutShort verdict ⊎ ((n : ℕ) × (verdict ≡ InDoubt n)))
 
 module _ {V : Type 0} (m : Model V) where
   -- A RUN MAY HAVE BEEN STOPPED SO, over this ledger, with this kept before it: the lines before one of the script were done and answered, and at that line
@@ -105,7 +116,7 @@ module _ {V : Type 0} (m : Model V) where
   pub record StopFits (τ : Tariff) (at : World Place V) (line told : List ℕ) (new : Audit) (w : V) : Type 0 where
     pub ledger : Ledger
     pub kept : V
-    pub stop : EventStopped m τ at line told ledger kept ⊎ OwnStopped m τ at line told ledger kept
+    pub stop : StopsAt m τ at line told ledger kept
     pub history : History τ editions ledger
     pub sees : SeesBetween new ledger
     pub alike : m.Alike w kept
@@ -122,21 +133,17 @@ module _ {V : Type 0} (m : Model V) where
     abbrev pub TellsStop : Ledger → V → Type 0
     TellsStop K kept = IsToldStop K kept ⊎ IsOpen reach verdict
 
-    -- no reach was given, and it is in doubt, or the audit was cut short; what a reach leads to is not said
-    abbrev pub IsUndecided : Type 0
-    IsUndecided = (reach ≡ None → IsCutShort verdict ⊎ ((n : ℕ) × (verdict ≡ InDoubt n)))
-
     -- it was stopped so, or that is undecided
     abbrev pub TellsOwnStop : Ledger → V → Type 0
-    TellsOwnStop K kept = IsToldStop K kept ⊎ IsUndecided
+    TellsOwnStop K kept = IsToldStop K kept ⊎ IsUndecided reach verdict
 
   -- These rates were left, and this was kept before the run and after it; the auditor had this before, and has that.
   module _ (script report : Option (List ℕ)) (rates : List ℕ) (v w : V) (old new : Audit) (verdict : SideVerdict) (reach : Option Reach) where
     -- IF IT IS STOPPED, a run may have been stopped so, from each history that the auditor had; and what that leaves is seen and kept
     abbrev pub FitsIfStopped : Type 0
     FitsIfStopped = AtKnown m script report (λ text told. (n : ℕ) → verdict ≡ Stopped n
-        → AtSeen old (λ τ H. (fits : FitsStopped (λ at line told K kept. EventStopped m τ at line told K kept ⊎ OwnStopped m τ at line told K kept)
-        τ H text told rates v) × History τ editions fits.ledger × SeesBetween new fits.ledger × m.Alike w fits.kept))
+        → AtSeen old (λ τ H. (fits : FitsStopped (λ at line told K kept. StopsAt m τ at line told K kept) τ H text told rates v)
+        × History τ editions fits.ledger × SeesBetween new fits.ledger × m.Alike w fits.kept))
 
     -- IF A RUN MAY HAVE BEEN STOPPED AT AN EVENT, from a history that the auditor had, it is called so
     abbrev pub StoppedIfFits : Type 0

@@ -1,5 +1,5 @@
 -- Several runs of all words, one after the other: what fits them all, and what their verdicts say together.
-use Rattle.std.specs.Prelude.{◌≡◌, List, [], ◌∷◌, Option, Some}
+use Rattle.std.specs.Prelude.{◌≡◌, ◌⊎◌, ℕ, List, [], ◌∷◌, Option, Some}
 use Rattle.std.specs.List.{AllByRecursion}
 use Rattle.bench_base.specs.declared.ledger.Entry.TheVariants.{Begin}
 use Rattle.bench_base.specs.Ledger.{Ledger}
@@ -9,8 +9,12 @@ use Rattle.trace_runs.specs.Fitting.{IsCutShort}
 use Rattle.trace_runs.specs.Runs.{Papers, FitsRun, FindsNothing as FindsNothingIn, AtStart}
 use Rattle.trace_runs.specs.Verdicts.{Says, status_of}
 use Rattle.trace_runs.specs.declared.{verdict.Ending.Ending, verdict.Verdict.Verdict}
+use Rattle.line_extensions.specs.Desks.{World}
 use Rattle.trace_extensions.specs.Fits.{FitsSo, FitsIfLawful, LawfulIfFits, IsOpen as IsOpenIn}
-use Rattle.trace_extensions.specs.declared.{papers.Reach.Reach, papers.SideVerdict.SideVerdict, papers.SideVerdict.TheVariants.Lawful}
+use Rattle.trace_extensions.specs.FitsStopped.{StopsAt, at_event, at_own_line, FitsStopped, FitsIfStopped, StoppedIfFits, StoppedInOwnIfFits, IsUndecided}
+use Rattle.trace_extensions.specs.Models.{Model}
+use Rattle.trace_extensions.specs.Places.{Place}
+use Rattle.trace_extensions.specs.declared.{papers.Reach.Reach, papers.SideVerdict.SideVerdict, papers.SideVerdict.TheVariants.Lawful, papers.SideVerdict.TheVariants.Stopped}
 use Rattle.trace_extensions.specs.Words.{Word, Beside, View, model_of, StartsWith, left_beside}
 
 -- == runs that fit ==
@@ -20,8 +24,8 @@ pub data Run : Type 0 where
   Events : (p : Papers) → Run
   Under : (w : Word) (p : Papers) → Run
 
--- A RUN UNDER A WORD FITS over ledger H, with this kept beside it, to its end, and leaves K and that.
-pub record FitsUnder (τ : Tariff) (H : Ledger) (k : Beside) (w : Word) (p : Papers) (K : Ledger) (l : Beside) : Type 0 where
+-- A run under a word fits over ledger H, with this kept beside it, to its end, and leaves K and that.
+pub record EndsUnder (τ : Tariff) (H : Ledger) (k : Beside) (w : Word) (p : Papers) (K : Ledger) (l : Beside) : Type 0 where
   pub before : View w
   pub starts : StartsWith w k before
   pub end : Ending
@@ -29,7 +33,20 @@ pub record FitsUnder (τ : Tariff) (H : Ledger) (k : Beside) (w : Word) (p : Pap
   pub ledger : K ≡ fits.run.did.behind.scene.ledger
   pub beside : l ≡ left_beside w k fits.run.did.behind.desk
 
--- one of events alone fits to its end, or up to a stop
+-- it fits up to a stop, and that leaves K and this
+pub record StopsUnder (τ : Tariff) (H : Ledger) (k : Beside) (w : Word) (p : Papers) (K : Ledger) (l : Beside) : Type 0 where
+  pub before : View w
+  pub starts : StartsWith w k before
+  pub fits : FitsStopped (model_of w) (λ at line told L kept. StopsAt (model_of w) τ at line told L kept) τ (Begin ∷ H) p.script p.report p.rates before
+  pub ledger : K ≡ fits.ledger
+  pub beside : l ≡ left_beside w k fits.kept
+
+-- to its end, or up to a stop
+pub data FitsUnder (τ : Tariff) (H : Ledger) (k : Beside) (w : Word) (p : Papers) (K : Ledger) (l : Beside) : Type 0 where
+  to_its_end : EndsUnder τ H k w p K l → FitsUnder τ H k w p K l
+  to_its_stop : StopsUnder τ H k w p K l → FitsUnder τ H k w p K l
+
+-- A RUN FITS over ledger H, with this kept beside it, and leaves K and that: one of events alone, or one under a word.
 abbrev pub FitsOne : Tariff → Ledger → Beside → Run → Ledger → Beside → Type 0
 FitsOne τ H k (Events p) K l = FitsRun τ H p K × (l ≡ k)
 FitsOne τ H k (Under w p) K l = FitsUnder τ H k w p K l
@@ -46,13 +63,20 @@ pub data Judged : Type 0 where
   EventsJudged : (p : Papers) (v : Verdict) → Judged
   UnderJudged : (w : Word) (p : Papers) (before after : View w) (reach : Option Reach) (v : SideVerdict) → Judged
 
+-- a run under a word was judged so, by the contract of `judge_side`
+pub record IsJudgedUnder (a : Audit) (k : Beside) (w : Word) (p : Papers) (before after : View w) (reach : Option Reach) (v : SideVerdict) (b : Audit)
+    : Type 0 where
+  pub starts : StartsWith w k before
+  pub fits : FitsIfLawful (model_of w) (Some p.script) (Some p.report) p.rates before after a b v
+  pub complete : LawfulIfFits (model_of w) (Some p.script) (Some p.report) p.rates before after a b v reach
+  pub fits_stopped : FitsIfStopped (model_of w) (Some p.script) (Some p.report) p.rates before after a b v reach
+  pub stops : StoppedIfFits (model_of w) (Some p.script) (Some p.report) p.rates before after a b v reach
+  pub own_stops : StoppedInOwnIfFits (model_of w) (Some p.script) (Some p.report) p.rates before after a b v reach
+
 -- an auditor that had this judged it so and has that then, by the contracts of `judge_next` and `judge_side`
 abbrev pub IsJudged : Audit → Beside → Judged → Audit → Type 0
 IsJudged a k (EventsJudged p v) b = Says v p.script p.report p.rates a b
-IsJudged a k (UnderJudged w p x y reach v) b =
-    StartsWith w k x
-    × FitsIfLawful (model_of w) (Some p.script) (Some p.report) p.rates x y a b v
-    × LawfulIfFits (model_of w) (Some p.script) (Some p.report) p.rates x y a b v reach
+IsJudged a k (UnderJudged w p x y reach v) b = IsJudgedUnder a k w p x y reach v b
 
 abbrev pub beside_after : Beside → Judged → Beside
 beside_after k (EventsJudged p v) = k
@@ -76,18 +100,34 @@ abbrev pub runs_of : List AuditedRun → List Run
 runs_of [] = []
 runs_of (r ∷ audits) = run_of r.judged ∷ runs_of audits
 
--- lawful; or, of events alone, stopped
+-- lawful or stopped
 abbrev pub FindsNothing : Judged → Type 0
 FindsNothing (EventsJudged p v) = FindsNothingIn v
-FindsNothing (UnderJudged w p x y reach v) = (end : Ending) × (v ≡ Lawful end)
+FindsNothing (UnderJudged w p x y reach v) = ((end : Ending) × (v ≡ Lawful end)) ⊎ ((n : ℕ) × (v ≡ Stopped n))
 
--- the verdict leaves it open whether the run fits
-abbrev pub IsOpen : Judged → Type 0
-IsOpen (EventsJudged p v) = IsCutShort v
-IsOpen (UnderJudged w p x y reach v) = IsOpenIn reach v
+-- The verdict leaves it open whether a run was stopped so. At an own line it does, too, if it is in doubt, and by any reach.
+abbrev pub IsOpenAt : {V : Type 0} (m : Model V) (τ : Tariff) (at : World Place V) (line told : List ℕ) (K : Ledger) (kept : V) → Option Reach → SideVerdict
+    → StopsAt m τ at line told K kept → Type 0
+IsOpenAt m τ at line told K kept reach v (at_event stop) = IsOpenIn reach v
+IsOpenAt m τ at line told K kept reach v (at_own_line stop) = IsUndecided reach v
+
+abbrev pub IsOpenUnder : (τ : Tariff) (H : Ledger) (k : Beside) (w : Word) (p : Papers) (K : Ledger) (l : Beside) → Option Reach → SideVerdict
+    → FitsUnder τ H k w p K l → Type 0
+IsOpenUnder τ H k w p K l reach v (to_its_end ends) = IsOpenIn reach v
+IsOpenUnder τ H k w p K l reach v (to_its_stop stops) =
+    let f = stops.fits in IsOpenAt (model_of w) τ f.behind f.line f.told f.ledger f.kept reach v f.stop
+
+-- the verdict leaves it open whether the run fits so
+abbrev pub IsOpen : (τ : Tariff) (H : Ledger) (k : Beside) (K : Ledger) (l : Beside) → (r : Judged) → FitsOne τ H k (run_of r) K l → Type 0
+IsOpen τ H k K l (EventsJudged p v) fits = IsCutShort v
+IsOpen τ H k K l (UnderJudged w p x y reach v) fits = IsOpenUnder τ H k w p K l reach v fits
+
+-- no verdict leaves it open whether its run fits as it does here
+abbrev pub NoneOpen : (τ : Tariff) (H : Ledger) (k : Beside) → (audits : List AuditedRun) → Fit τ H k (runs_of audits) → Type 0
+NoneOpen τ H k [] fit = Unit {0}
+NoneOpen τ H k (r ∷ audits) fit = (IsOpen τ H k fit.0 fit.1 r.judged fit.2 → ⊥) × NoneOpen τ fit.0 fit.1 audits fit.3
 
 -- RUNS OF ALL WORDS ARE JUDGED EXACTLY. If the verdicts find nothing, the runs fit. If the runs fit, and no verdict leaves that open, they find nothing.
 pub record AreExact (start : Audit) (k : Beside) (audits : List AuditedRun) : Type 0 where
   pub sound : AllByRecursion (λ r. FindsNothing r.judged) audits → AtStart start (λ τ H. Fit τ H k (runs_of audits))
-  pub complete : AllByRecursion (λ r. IsOpen r.judged → ⊥) audits
-      → AtStart start (λ τ H. Fit τ H k (runs_of audits) → AllByRecursion (λ r. FindsNothing r.judged) audits)
+  pub complete : AtStart start (λ τ H. (fit : Fit τ H k (runs_of audits)) → NoneOpen τ H k audits fit → AllByRecursion (λ r. FindsNothing r.judged) audits)
