@@ -46,7 +46,8 @@ pub trait TracedExtension: Extension {
             → IsIdle model old new next };
 
     /// What this prefix of an answer has of the reply to the step of this number, counted from 1, if no step follows that one: none, some or all of it,
-    /// without its line end. `None` if no such answer begins so.
+    /// without its line end. If some of the answer was written, and nothing of the reply in it, it is a failure whose answer begins so. `None` if no such
+    /// answer begins so.
     fn reply_in(step: u32, prefix: &[u8]) -> Option<&[u8]>;
 
     /// Laws of its model. Nothing is done.

@@ -238,10 +238,14 @@ impl TracedExtension for Checker {
         }
     }
 
+    // Within its front, the answer tells that the scan failed, and not yet how: a loss of power stands for both failures.
     fn reply_in(step: u32, prefix: &[u8]) -> Option<&[u8]> {
         let front = no_piece(step);
-        if front.as_slice().starts_with(prefix) {
+        if prefix.is_empty() {
             return Some(&[]);
+        }
+        if front.as_slice().starts_with(prefix) {
+            return Some(b"power verifier");
         }
         prefix.strip_prefix(front.as_slice())
     }
