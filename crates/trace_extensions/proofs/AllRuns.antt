@@ -21,7 +21,7 @@ use Rattle.trace_runs.proofs.Alike.{between}
 use Rattle.trace_runs.proofs.EachRun.{run_history, run_fits, run_seen, run_found}
 use Rattle.trace_extensions.specs.Places.{Place}
 use Rattle.trace_extensions.specs.Models.{Model}
-use Rattle.trace_extensions.specs.FitsStopped.{EventStopped, OwnStopped, StopsAt, at_event, at_own_line, FitsStopped}
+use Rattle.trace_extensions.specs.FitsStopped.{EventStopped, OwnStopped, StopsAt, at_event, at_own_line, before_it, FitsStopped}
 use Rattle.trace_extensions.specs.ClaimsModel.{Standing, claims_model}
 use Rattle.trace_extensions.specs.DepartmentsModel.{Kept, departments_model}
 use Rattle.trace_extensions.specs.Fits.{FitsSo, IsLeftSo}
@@ -167,7 +167,7 @@ module _ (one : (x y : Reply) → IsWholeReply x → IsWholeReply y → text_of 
           left_so k l w p x y reach v K nothing.0 s.0 refl refl s.1,
         )
     one_fits k (UnderJudged w p x y reach v) judged (inr stopped) =
-        let s = judged.fits_stopped stopped.0 stopped.1 τ H texts history seen in (
+        let s = judged.fits_stopped stopped τ H texts history seen in (
           s.0.ledger,
           left_beside w k s.0.kept,
           to_its_stop (record { before = x; starts = judged.starts; fits = s.0; ledger = refl; beside = refl }),
@@ -179,7 +179,7 @@ module _ (one : (x y : Reply) → IsWholeReply x → IsWholeReply y → text_of 
       stop_left : (n : ℕ) (L : Ledger) (kept : View w) → v ≡ Stopped n → SeesBetween b L → (model_of w).Alike y kept → stops.fits.ledger ≡ L → left_beside w k stops.fits.kept ≡ left_beside w k kept
           → FindsNothing (UnderJudged w p x y reach v) × Leaves τ b K k l (UnderJudged w p x y reach v)
       stop_left n L kept is sees like ledger beside = (
-        inr (n, is),
+        inr (n, inl is),
         record {
           history = subst (λ (X : Ledger). History τ editions X) (sym stops.ledger) (stop_history τ (model_of w) (Begin ∷ H) p.script p.report p.rates stops.before (begins history) stops.fits);
           sees = subst (λ (X : Ledger). SeesBetween b X) (sym (stops.ledger ∙ ledger)) sees;
@@ -203,6 +203,7 @@ module _ (one : (x y : Reply) → IsWholeReply x → IsWholeReply y → text_of 
             | inl told ↦ stop_left told.0 g.0.ledger g.0.kept told.1 told.2 told.3 g.1 g.2
             | inr undecided ↦ absurd (closed undecided)
           ]
+      found_stop (before_it none) closed = absurd (closed tt)
 
     one_found : (k : Beside) (r : Judged) → IsJudged a k r b → (K : Ledger) (l : Beside) (fits : FitsOne τ H k (run_of r) K l) → (IsOpen τ H k K l r fits → ⊥) → FindsNothing r × Leaves τ b K k l r
     one_found k (EventsJudged p v) says K l fits closed =

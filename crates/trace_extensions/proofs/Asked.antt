@@ -1,5 +1,5 @@
 -- A step that an extension asked for, taken with the reply that it hears of.
-use Rattle.std.proofs.Common.{◌≡◌, ◌⊎◌, inl, inr, ℕ, List, [], ◌∷◌, ◌++◌, drop, Ok, refl, sym, ◌∙◌, ap, subst}
+use Rattle.std.proofs.Common.{◌≡◌, ℕ, List, [], ◌∷◌, ◌++◌, drop, Ok, refl, sym, ◌∙◌, ap, subst}
 use Rattle.bench_base.specs.declared.events.Event.{Event}
 use Rattle.bench_base.specs.Ledger.{Ledger, day_in}
 use Rattle.bench_base.specs.Replies.{class_of}
@@ -7,6 +7,7 @@ use Rattle.bench_base.specs.Rules.{editions}
 use Rattle.bench_abstraction.specs.Tariff.{IsOfTexts}
 use Rattle.ledger_moves.specs.Tariffs.{Tariff}
 use Rattle.ledger_moves.specs.Histories.{History, Unforged, moves}
+use Rattle.script_text.specs.Texts.{text_of}
 use Rattle.line_extensions.specs.Trace.{StepRecord, done}
 use Rattle.line_extensions.specs.Desks.{World, world, Asks, Asked}
 use Rattle.line_extensions.specs.declared.{extension.Extension.Ghosts, extension.Next.Next, extension.Next.TheVariants.Step}
@@ -15,11 +16,9 @@ use Rattle.node_turns.specs.declared.turn.Turn.{Turn}
 use Rattle.trace_bench.specs.declared.judging.Judged.{Judged}
 use Rattle.trace_bench.specs.Judging.{IsJudged, taken_by}
 use Rattle.trace_bench.specs.Seeing.{Audit, Sees}
-use Rattle.trace_bench.specs.Stopping.{IsBegun}
 use Rattle.trace_extensions.specs.Places.{Place, place, turn_at, MayStep}
-use Rattle.trace_extensions.specs.Stops.{StepBegun}
-use Rattle.trace_extensions.specs.Takes.{AtEachSeen, TakesAt, IsBegunAt}
-use Rattle.trace_extensions.specs.Worlds.{AskedOne, AskedSo, OneBegun}
+use Rattle.trace_extensions.specs.Takes.{AtEachSeen, TakesAt}
+use Rattle.trace_extensions.specs.Worlds.{AskedOne, AskedSo, OneAsked}
 
 -- what is judged of a line is taken
 pub judged_line : {T : Type 0} (IsOf : T → Turn → Type 0) (τ : Tariff) (H : Ledger) (e : Event) (line left left1 : List ℕ) (now : Audit) (judged : Judged T) → Unforged e H
@@ -49,18 +48,21 @@ module _ {K T : Type 0} (k : Ghosts K T) (τ : Tariff) where
 
 module _ {K T : Type 0} (k : Ghosts K T) where
   -- one step, of which the extension heard
-  pub asked_one : (τ : Tariff) (H : Ledger) (e : Event) (line left left1 : List ℕ) (new : Audit) (desk desk1 : K) (next : Next) → History τ editions H
+  pub asked_with : (τ : Tariff) (H : Ledger) (e : Event) (line left left1 : List ℕ) (new : Audit) (desk desk1 : K) (next : Next) → History τ editions H
       → (d : StepRecord) → TakesAt τ H e line new left left1 d → k.Goes desk (turn_at τ H d) next desk1
-      → AskedOne k τ e (world (place H left) desk) new left1 desk1 next
-  asked_one τ H e line left left1 new desk desk1 next history d t goes = record {
-    d = d;
-    turn = turn_at τ H d;
-    new = world (place (ledger_by τ H d) left1) desk1;
-    event = t.event;
-    did = record { may = t.may; turn_is = refl; new_is = ap (λ (l : List ℕ). place (ledger_by τ H d) l) t.left };
-    goes = goes;
-    seen = record { history = moves d.event d.text d.reply history t.may.unforged t.may.moves; sees = t.sees; left = refl; desk = refl };
-  }
+      → (one : AskedOne k τ e (world (place H left) desk) new left1 desk1 next) × (text_of one.d.reply ≡ line)
+  asked_with τ H e line left left1 new desk desk1 next history d t goes = (
+    record {
+      d = d;
+      turn = turn_at τ H d;
+      new = world (place (ledger_by τ H d) left1) desk1;
+      event = t.event;
+      did = record { may = t.may; turn_is = refl; new_is = ap (λ (l : List ℕ). place (ledger_by τ H d) l) t.left };
+      goes = goes;
+      seen = record { history = moves d.event d.text d.reply history t.may.unforged t.may.moves; sees = t.sees; left = refl; desk = refl };
+    },
+    t.text,
+  )
 
   -- nothing was asked for yet
   pub asked_none : (τ : Tariff) (H : Ledger) (left : List ℕ) (a : Audit) (desk : K) (first : Next) → History τ editions H → Sees a H
@@ -90,21 +92,16 @@ module _ {K T : Type 0} (k : Ghosts K T) where
         seen = one.seen;
       }
 
-  -- one step more was begun
-  pub begun_after : (τ : Tariff) (texts : IsOfTexts τ) (old : World Place K) (mid : Audit) (left : List ℕ) (desk : K) (a : Audit) (first next : Next) (e : Event) (told : List ℕ) → next ≡ Step e
-      → AskedSo k τ old mid left desk first next → ((reply : List ℕ) × IsBegunAt e reply left mid a) ⊎ ((told ≡ []) × AtEachSeen mid (λ τ H. Sees a H)) → OneBegun k τ old first told a desk
-  begun_after τ texts old mid left desk a first next e told is so begun = record {
+  -- one step more was asked for, and nothing was answered: Q of the event, at the place of each history
+  pub asked_after : (Q : Tariff → Place → Event → Type 0) (τ : Tariff) (texts : IsOfTexts τ) (old : World Place K) (mid : Audit) (left : List ℕ) (desk : K) (first next : Next) (e : Event) (told : List ℕ) → next ≡ Step e
+      → told ≡ [] → AskedSo k τ old mid left desk first next → AtEachSeen mid (λ τ H. Q τ (place H left) e) → OneAsked k (λ at event. Q τ at event) τ old first told desk
+  asked_after Q τ texts old mid left desk first next e told is none so begun = record {
     steps = so.steps;
     new = so.new;
     event = e;
     asks = subst (λ (n : Next). Asks k (MayStep τ) old so.new first so.steps n) is so.asks;
+    silent = none;
     history = so.seen.history;
-    begun = by begun;
+    begun = subst (λ (l : List ℕ). Q τ (place so.new.scene.ledger l) e) (sym so.seen.left) (begun τ so.new.scene.ledger texts so.seen.history so.seen.sees);
     left = sym so.seen.desk;
   }
-    where
-      by : ((reply : List ℕ) × IsBegunAt e reply left mid a) ⊎ ((told ≡ []) × AtEachSeen mid (λ τ H. Sees a H)) → StepBegun τ so.new.scene e told a
-      by (inl w) =
-          let b = w.1 τ so.new.scene.ledger texts so.seen.history so.seen.sees in
-          inl (w.0, b.0, subst (λ (l : List ℕ). IsBegun τ so.new.scene.ledger e l w.0 a) (sym so.seen.left) b.1)
-      by (inr w) = inr (w.0, w.1 τ so.new.scene.ledger texts so.seen.history so.seen.sees)

@@ -108,19 +108,27 @@ module _ {K T : Type 0} (k : Ghosts K T) {V : Type 0} (view : K → V) (m : Mode
     no_stop old new next [] asks is = cc (asks.0, is)
     no_stop old new next (d ∷ steps) asks is = cc (asks.2.asks, is)
 
-    pub asks_of : (old new : World B K) (next : Next) (steps : List StepRecord) → Asks k Steps old new next steps Say → Asks (by_model m) Steps (seen_by old) (seen_by new) next steps Say
-    asks_of old new next [] asks = (asks.0, ap (λ (w : World B K). seen_by w) asks.1)
-    asks_of old new next (d ∷ steps) asks = (
+    runs_on : (old new : World B K) (next : Next) (steps : List StepRecord) (last : Next) → last ≢ Stop → Asks k Steps old new next steps last → next ≢ Stop
+    runs_on old new next [] last runs asks = λ is. runs (asks.0 ∙ is)
+    runs_on old new next (d ∷ steps) last runs asks = λ is. cc (asks.2.asks, is)
+
+    -- steps up to something else than a failed commit are those of the model
+    pub asks_to : (old new : World B K) (next : Next) (steps : List StepRecord) (last : Next) → last ≢ Stop → Asks k Steps old new next steps last → Asks (by_model m) Steps (seen_by old) (seen_by new) next steps last
+    asks_to old new next [] last runs asks = (asks.0, ap (λ (w : World B K). seen_by w) asks.1)
+    asks_to old new next (d ∷ steps) last runs asks = (
       seen_by asks.0,
       asks.1,
       record {
         asks = asks.2.asks;
         turn = asks.2.turn;
         did = asks.2.did;
-        goes = modelled.goes old.desk asks.0.desk asks.2.turn asks.1 asks.2.goes (no_stop asks.0 new asks.1 steps asks.3);
+        goes = modelled.goes old.desk asks.0.desk asks.2.turn asks.1 asks.2.goes (runs_on asks.0 new asks.1 steps last runs asks.3);
       },
-      asks_of asks.0 new asks.1 steps asks.3,
+      asks_to asks.0 new asks.1 steps last runs asks.3,
     )
+
+    pub asks_of : (old new : World B K) (next : Next) (steps : List StepRecord) → Asks k Steps old new next steps Say → Asks (by_model m) Steps (seen_by old) (seen_by new) next steps Say
+    asks_of old new next steps asks = asks_to old new next steps Say (λ stop. cc) asks
 
     does_one_of : (old new : World B K) (b : SideStep k.Own) → SideIsOf k.IsOwn b → (SideGoesOn b ⊎ SideIsEnd b) → DoesOne k Steps old new b → DoesOne (by_model m) Steps (seen_by old) (seen_by new) (of_model b)
     does_one_of old new (Plain (Skipped line)) is goes did = ap (λ (w : World B K). seen_by w) did

@@ -138,8 +138,6 @@ module _ {V : Type 0} (m : Model V) (Like : V → V → Type 0) (f : Forgets m L
         event = x.event;
         did = own_does (MayStep τ) s x.behind t line x.steps (Step x.event) at like x.did;
         silent = x.silent;
-        whole = x.whole;
-        unforged = x.unforged;
         leaves = x.leaves;
         keeps = x.keeps;
       }),

@@ -25,6 +25,8 @@ use Rattle.trace_bench.specs.Judging.{taken_by}
 use Rattle.trace_bench.specs.Stopping.{unanswered}
 use Rattle.trace_runs.specs.Audits.{MayTell}
 use Rattle.trace_runs.specs.Runs.{StopLeaves, was_done, is_open}
+use Rattle.trace_extensions.specs.FitsStopped.{LeftByStep}
+use Rattle.trace_extensions.specs.Places.{Place}
 use Rattle.trace_extensions.proofs.Sure.{FailsAt, balance_firm, sure_reply}
 
 -- it adds no entry, and no node comes on
@@ -106,3 +108,8 @@ pub balance_left : (τ : Tariff) (H : Ledger) (e : Event) (w : ℕ) (left : List
 balance_left τ H e w left K is (was_done reply may certain same) = absurd (certain (unanswered refl))
 balance_left τ H e w left K is (is_open doubt same) =
     same ∙ ap (λ (x : Event). with_open (plan τ todays_rules H x (taken_by x (day_in H) Did left)).commit H) is ∙ not_opened τ H w _
+
+-- and one that was asked for, and may have been done
+pub balance_kept : (τ : Tariff) (at : Place) (e : Event) (w : ℕ) (K : Ledger) → e ≡ ev.Balance w → LeftByStep τ at e K → K ≡ at.ledger
+balance_kept τ at e w K is (inl left) = balance_left τ at.ledger e w at.left K is left.1
+balance_kept τ at e w K is (inr forged) = forged.1

@@ -27,16 +27,17 @@ use Rattle.trace_bench.specs.Seeing.{Audit, Sees, keeps}
 use Rattle.trace_runs.specs.Between.{SeesBetween}
 use Rattle.trace_runs.specs.Fitting.{BeginsTold}
 use Rattle.trace_runs.specs.Runs.{StopLeaves}
+use Rattle.trace_runs.proofs.Alike.{between}
 use Rattle.trace_extensions.specs.Exact.{EachReply, HasNext, MayBe, EachMayBe, MayAnswer, IsMet, EachLeft, EachOwnLeft, NoStop, TellsStops}
 use Rattle.trace_extensions.specs.Fits.{IsCutShort, IsOpen, IsText}
-use Rattle.trace_extensions.specs.FitsStopped.{IsCutOf, at_event, EventStopped, OwnStopped, not_begun, all_of_it, part_of_it, TellsStop, TellsOwnStop}
+use Rattle.trace_extensions.specs.FitsStopped.{IsCutOf, at_event, before_it, EventStopped, OwnStopped, not_begun, all_of_it, part_of_it, TellsStop, TellsOwnStop}
 use Rattle.trace_extensions.specs.Models.{Model, by_model, AreAlike, IsModelOf, IsDetermined, TellsFailures}
 use Rattle.trace_extensions.specs.Places.{Place, place, turn_at, MayStep}
 use Rattle.trace_extensions.specs.Steps.{AuditWorld, audit_world, IsStop, IsKnown, Passed, Heard, Own, Begun, Ended, audit_lines}
 use Rattle.trace_extensions.specs.Takes.{AtEachSeen, TakesLine, EndsWithin}
 use Rattle.trace_extensions.specs.Worlds.{AuditLeaves, AskedSo, DidAudit, LeftSo, all_asked, one_begun, ReadsInOwn, ReadsStop, stop_fits}
 use Rattle.trace_extensions.specs.Stops.{LeftAt, event_begun, none_begun, own_done, own_begun}
-use Rattle.trace_extensions.proofs.Known.{known_left, known_fits}
+use Rattle.trace_extensions.proofs.Known.{known_left, known_fits, reached_left, reached_fits}
 use Rattle.trace_extensions.proofs.StoppedFits.{open_undecided}
 use Rattle.trace_extensions.proofs.OnlyLines.{OwnMayBe, if_skipped, if_passed, if_own, met_event}
 use Rattle.trace_extensions.specs.declared.papers.{Reach.Reach, SideVerdict.SideVerdict}
@@ -223,7 +224,7 @@ module _ {K T : Type 0} (k : Ghosts K T) {V : Type 0} (view : K → V) (m : Mode
                 let it = w.1 τ H texts history sees in
                 let x = w.2 τ H texts history sees in (
                   event_begun (record { event = e; is = is; passes = passes; unforged = it.0; begun = it.1; stays = same }),
-                  λ n said. record {
+                  λ said. record {
                     ledger = x.0;
                     kept = view old.desk;
                     stop = at_event (record { event = e; is = is; passes = modelled.passes old.desk line passes; begins = x.1; leaves = x.2; stays = refl });
@@ -244,8 +245,23 @@ module _ {K T : Type 0} (k : Ghosts K T) {V : Type 0} (view : K → V) (m : Mode
       by : IsStop new → EndsAt old new
       by (n, inl stop) = absurd (none n stop)
       by (n, inr stop) =
-          let w = own n stop in
-          ([], w.0, w.1, λ τ H texts history sees. (none_begun (record { silent = refl; sees = subst (λ (a : Audit). Sees a H) (sym audit) sees; stays = same }), λ j said. absurd (none j said)))
+          let w = own n stop in (
+            [],
+            w.0,
+            w.1,
+            λ τ H texts history sees.
+                let here : Sees new.audit H = subst (λ (a : Audit). Sees a H) (sym audit) sees in (
+                  none_begun (record { silent = refl; sees = here; stays = same }),
+                  λ said. record {
+                    ledger = H;
+                    kept = view old.desk;
+                    stop = before_it (record { silent = refl; ledger = refl; stays = refl });
+                    history = history;
+                    sees = between new.audit H here;
+                    alike = subst (λ (d : K). m.Alike (view d) (view old.desk)) (sym same) (alike.same (view old.desk));
+                  },
+                ),
+          )
 
   -- what the report has of an own line's answer, whatever may have been done for it
   abbrev pub OwnLeaves : (ℕ → List ℕ → Reply → Type 0) → Audit → List ℕ → K → Next → Option (List ℕ) → (Tariff → World Place V → List ℕ → Type 0) → Type 0
@@ -280,6 +296,7 @@ module _ {K T : Type 0} (k : Ghosts K T) {V : Type 0} (view : K → V) (m : Mode
     behind = one.new;
     event = one.event;
     did = record { first = first; desk = mid; begins = begins; asks = one.asks };
+    silent = one.silent;
     history = one.history;
     begun = one.begun;
     left = one.left;
@@ -324,16 +341,25 @@ module _ {K T : Type 0} (k : Ghosts K T) {V : Type 0} (view : K → V) (m : Mode
         λ τ H texts history sees.
             let so = r.3 τ H texts history sees in (
               left_so τ H r.0 (known_left k view m τ (place H left0) mid first r.0 audit1 desk1 history so),
-              λ n said. known_fits k view m modelled alike τ (place H left0) desk mid line own first r.0 audit1 desk1 history is begins goes so,
+              λ said. known_fits k view m modelled alike τ (place H left0) desk mid line own first r.0 audit1 desk1 history is begins goes so,
             ),
       )
 
-      reached : (n : ℕ) → v1 ≡ verdict.StoppedInOwn n → ReadsInOwn k audit0 left0 mid first report0 audit1 desk1 report1 → EndsAt (audit_world audit0 left0 desk report0 v0 reach0) (audit_world audit1 left1 desk1 report1 v1 reach1)
-      reached n other r = (r.0, r.1, r.2, λ τ H texts history sees. (left_so τ H r.0 (r.3 τ H texts history sees), λ j said. absurd (cc (said, other))))
+      reached : ReadsInOwn k audit0 left0 mid first report0 audit1 desk1 report1 → EndsAt (audit_world audit0 left0 desk report0 v0 reach0) (audit_world audit1 left1 desk1 report1 v1 reach1)
+      reached r = (
+        r.0,
+        r.1,
+        r.2,
+        λ τ H texts history sees.
+            let so = r.3 τ H texts history sees in (
+              left_so τ H r.0 (reached_left k view m τ (place H left0) mid first r.0 audit1 desk1 so),
+              λ said. reached_fits k view m modelled alike τ (place H left0) desk mid line own first r.0 audit1 desk1 is begins goes so,
+            ),
+      )
 
       by : IsStop (audit_world audit1 left1 desk1 report1 v1 reach1) → EndsAt (audit_world audit0 left0 desk report0 v0 reach0) (audit_world audit1 left1 desk1 report1 v1 reach1)
       by (n, inl stop) = known (one n stop)
-      by (n, inr stop) = reached n stop (two n stop)
+      by (n, inr stop) = reached (two n stop)
 
   -- the extension answered, and the report has its texts
   pub answered : (audit0 audit1 : Audit) (left0 left1 : List ℕ) (desk mid desk1 : K) (report0 report1 : Option (List ℕ)) (v0 v1 : SideVerdict) (reach0 reach1 : Option Reach) (taken : Option (List ℕ)) (own : k.Own) (first : Next)

@@ -20,6 +20,7 @@ use Rattle.trace_extensions.specs.Exact.{IsMet}
 use Rattle.trace_extensions.specs.Models.{Model, by_model, IsModelOf, IsDetermined, IsSure, IsToldOf, AreToldOf}
 use Rattle.trace_extensions.specs.Places.{Place, place, turn_at, MayStep}
 use Rattle.trace_extensions.specs.Takes.{TakesAt}
+use Rattle.trace_extensions.specs.Worlds.{AskedOne}
 use Rattle.trace_extensions.proofs.SameStep.{same_turn, ledgers, lefts}
 use Rattle.trace_extensions.proofs.Sure.{FailsAt, sure_reply}
 
@@ -49,6 +50,21 @@ chosen_text Fails number line τ H left d e due reply event may told due_is fail
           fine none ∙ due_is ∙ ap (λ (t : List ℕ). answer τ todays_rules H e t) (sym taken) ∙ ap (λ (x : Event). answer τ todays_rules H x d.text) (sym event) ∙ sym is
       | inr fails ↦ absurd (failing d.event d.reply told.sure fails no_failure)
     ]
+
+module _ {K T : Type 0} (k : Ghosts K T) where
+  -- a step that was asked for is one that was taken
+  pub asked_takes : (τ : Tariff) (H : Ledger) (e : Event) (left left1 text : List ℕ) (new : Audit) (desk desk1 : K) (next : Next) → (one : AskedOne k τ e (world (place H left) desk) new left1 desk1 next)
+      → text_of one.d.reply ≡ text → TakesAt τ H e text new left left1 one.d × k.Goes desk (turn_at τ H one.d) next desk1
+  asked_takes τ H e left left1 text new desk desk1 next one is = (
+    record {
+      event = one.event;
+      text = is;
+      may = one.did.may;
+      sees = subst (λ (s : Place). Sees new s.ledger) one.did.new_is one.seen.sees;
+      left = sym one.seen.left ∙ ap (λ (s : Place). s.left) one.did.new_is;
+    },
+    subst (λ (t : Turn). k.Goes desk t next desk1) one.did.turn_is (subst (λ (d : K). k.Goes desk one.turn next d) one.seen.desk one.goes),
+  )
 
 module _ {K T : Type 0} (k : Ghosts K T) {V : Type 0} (view : K → V) (m : Model V) (modelled : IsModelOf k view m) (det : IsDetermined m) where
   -- one step, which the extension heard of

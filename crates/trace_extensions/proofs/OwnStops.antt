@@ -24,7 +24,7 @@ use Rattle.trace_extensions.specs.Places.{Place, MayStep}
 use Rattle.trace_extensions.specs.Worlds.{LeftSo, one_begun}
 use Rattle.trace_extensions.specs.declared.{papers.Reach.Reach, papers.SideVerdict.SideVerdict, papers.SideVerdict.TheVariants.Stopped}
 use Rattle.trace_extensions.proofs.Cuts.{cut_first, ended_some, none_long, not_long_cut}
-use Rattle.trace_extensions.proofs.Idle.{balance_left}
+use Rattle.trace_extensions.proofs.Idle.{balance_kept}
 use Rattle.trace_extensions.proofs.Lines.{not_one, one_split}
 
 -- what is asked for first is a step, or there is none
@@ -42,7 +42,7 @@ pub idle_left : {K T : Type 0} (k : Ghosts K T) (τ : Tariff) (scene : Place) (d
 idle_left k τ scene desk Say told a step none history sees = absurd step
 idle_left k τ scene desk Stop told a step none history sees = absurd step
 idle_left k τ scene desk (Step e) told a step none history sees =
-    one_begun (record { steps = []; new = world scene desk; event = e; asks = (refl, refl); history = history; begun = inr (none, sees); left = refl })
+    one_begun (record { steps = []; new = world scene desk; event = e; asks = (refl, refl); silent = none; history = history; begun = inr sees; left = refl })
 
 pub no_bytes : (l : List ℕ) → true ≡ (length l == 0) → l ≡ []
 no_bytes l is = nil_from_length l ((Decides-eqb (length l) 0).0 (sym is))
@@ -155,7 +155,7 @@ module _ {V : Type 0} (m : Model V) (det : IsDetermined m) where
             let so = begun_so τ scene v desk line first x.behind x.steps (Step x.event) begins x.did in
             let still = idle none (world scene v) x.behind line x.steps (Step x.event) x.did so.first_is so.desk_is in
             let asks = still.asks x.event refl in
-            told_so desk scene.ledger L kept (inl is) sees (balance_left τ x.behind.scene.ledger x.event asks.0 x.behind.scene.left L asks.1 x.leaves ∙ still.ledger)
+            told_so desk scene.ledger L kept (inl is) sees (balance_kept τ x.behind.scene x.event asks.0 L asks.1 x.leaves ∙ still.ledger)
             (subst (λ (w : V). m.Alike desk w) (sym x.keeps) (alike.joined desk x.behind.desk v (first_alike none v line begins) still.alike))
 
         -- all was done, or nothing, which comes to the same

@@ -1,5 +1,5 @@
 -- Where it is known what was done: no node failed in the steps that the answer begins to tell of; and if nothing was written, nothing was changed.
-use Rattle.std.proofs.Common.{◌≡◌, ◌⊎◌, inl, inr, ℕ, ◌+◌, List, [], ◌∷◌, ◌++◌, refl, sym, ap, ◌∙◌, subst, append-nil}
+use Rattle.std.proofs.Common.{◌≡◌, ◌⊎◌, inl, inr, ℕ, ◌+◌, List, [], ◌∷◌, ◌++◌, Option, Some, None, IfSome, IfNone, refl, sym, ap, ◌∙◌, subst, append-nil}
 use Rattle.bench_base.specs.declared.{words.Node.Node, events.Event.Event, events.Reply.Reply}
 use Rattle.bench_base.specs.declared.events.Reply.TheVariants as r
 use Rattle.line_extensions.specs.Trace.{StepRecord}
@@ -94,3 +94,23 @@ pub settled_by : (Fails : ℕ → List ℕ → Reply → Type 0) (texts : List (
 settled_by Fails texts text prefix more steps are never none tells =
     let first : tells.first ≡ text = cc (tells.are, are) in
     settle Fails text prefix never none 1 steps (subst (λ (l : List ℕ). AreToldOf Fails 1 l steps) first tells.told)
+
+-- == results ==
+
+pub if_some : {X : Type 0} (o : Option X) (P Q : X → Type 0) → ((x : X) → P x → Q x) → IfSome o P → IfSome o Q
+if_some None P Q f p = tt
+if_some (Some x) P Q f p = f x p
+
+pub if_none : {X : Type 0} (o : Option X) (P Q : Type 0) → (P → Q) → IfNone o P → IfNone o Q
+if_none None P Q f p = f p
+if_none (Some x) P Q f p = tt
+
+-- == failures with which an answer begins ==
+
+module _ (m : Node) (prefix : List ℕ) (o : Option Reply) where
+  -- of an answer that is the text of the failure
+  pub text_found : IfSome o (λ reply. IsPrefixOf prefix (text_of reply) × IsFailure reply m) → IfSome o (λ reply. (line : List ℕ) × TellsOf m line reply × IsPrefixOf prefix line)
+  text_found found = if_some o _ _ (λ reply w. (text_of reply, (refl, w.1), w.0)) found
+
+  pub text_none : IfNone o ((reply : Reply) → IsPrefixOf prefix (text_of reply) → IsFailure reply m → ⊥) → IfNone o ((line : List ℕ) (reply : Reply) → TellsOf m line reply → IsPrefixOf prefix line → ⊥)
+  text_none none = if_none o _ _ (λ never line reply tells p. never reply (subst (λ (l : List ℕ). IsPrefixOf prefix l) tells.0 p) tells.1) none

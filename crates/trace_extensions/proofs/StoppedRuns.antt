@@ -1,5 +1,5 @@
 -- A run that is called stopped may have been stopped so, by the model of the extension.
-use Rattle.std.proofs.Common.{◌≡◌, inl, ℕ, ◌+◌, ◌≤◌, List, [], ◌∷◌, ◌++◌, length, map, Option, Some, None, refl, sym, ◌∙◌, ap, subst}
+use Rattle.std.proofs.Common.{◌≡◌, inl, inr, ℕ, ◌+◌, ◌≤◌, List, [], ◌∷◌, ◌++◌, length, map, Option, Some, None, refl, sym, ◌∙◌, ap, subst}
 use Rattle.std.proofs.KnownBytes.{Consumes-trans}
 use Rattle.std.specs.Io.KnownBytes.{Consumes}
 use Rattle.std.specs.List.{AllByRecursion}
@@ -19,7 +19,7 @@ use Rattle.line_extensions.specs.Wants.{IsAlone}
 use Rattle.line_extensions.specs.declared.extension.Extension.{Ghosts}
 use Rattle.trace_bench.specs.Seeing.{Audit, Sees}
 use Rattle.trace_runs.specs.Between.{SeesBetween}
-use Rattle.trace_extensions.specs.FitsStopped.{StopsAt, FitsStopped, StopFits, FitsIfStopped}
+use Rattle.trace_extensions.specs.FitsStopped.{StopsAt, FitsStopped, SaysStopped, StopFits, FitsIfStopped}
 use Rattle.trace_extensions.specs.Models.{Model, by_model, IsModelOf}
 use Rattle.trace_extensions.specs.Places.{place, MayStep}
 use Rattle.trace_extensions.specs.Steps.{AuditWorld, AuditStep, IsStop, Passed, Heard, Begun, Ended, audit_line, audit_lines, AuditEnds}
@@ -33,6 +33,16 @@ use Rattle.trace_extensions.proofs.Cuts.{all_read as all_taken}
 use Rattle.trace_extensions.proofs.RunFits.{if_known}
 use Rattle.trace_extensions.proofs.Stopped.{none_ends, whole, lines_done, is_left, elsewhere}
 use Rattle.trace_extensions.proofs.Translated.{AreStepsOf, same_length, same_report, texts_of, all_read, all_go_on, all_texts, took, took_split}
+
+-- a verdict that says neither
+pub never_said : (v : SideVerdict) → ((n : ℕ) → v ≡ verdict.Stopped n → ⊥) → ((n : ℕ) → v ≡ verdict.StoppedInOwn n → ⊥) → SaysStopped v → ⊥
+never_said v none own (n, inl is) = none n is
+never_said v none own (n, inr is) = own n is
+
+-- and so is another that says the same
+pub said_too : (v w : SideVerdict) → ((n : ℕ) → v ≡ verdict.Stopped n → w ≡ verdict.Stopped n) → ((n : ℕ) → v ≡ verdict.StoppedInOwn n → w ≡ verdict.StoppedInOwn n) → SaysStopped v → SaysStopped w
+said_too v w one two (n, inl is) = (n, inl (one n is))
+said_too v w one two (n, inr is) = (n, inr (two n is))
 
 module _ {K T : Type 0} (k : Ghosts K T) {V : Type 0} (view : K → V) (m : Model V) (modelled : IsModelOf k view m) (alone : (own : k.Own) (line : List ℕ) → k.IsOwn own line → IsAlone line) where
   -- the steps that were done have the lines of the audit
@@ -56,14 +66,14 @@ module _ {K T : Type 0} (k : Ghosts K T) {V : Type 0} (view : K → V) (m : Mode
 
   module _ (script behind : List ℕ) (t0 t1 : Option (List ℕ)) (w0 w1 : AuditWorld K)
       (r : Replayed (audit_lines k) Stopped (turns.Ended (DidAudit k view m) AuditLeaves Stopped w0 w1) (Some script) (Some behind) t0 t1)
-      (old : Audit) (rates : List ℕ) (same : w0.rates ≡ rates) (begun : (H : Ledger) → SeesBetween old H → Sees w0.audit (Begin ∷ H)) (n : ℕ) (said : w1.verdict ≡ verdict.Stopped n)
+      (old : Audit) (rates : List ℕ) (same : w0.rates ≡ rates) (begun : (H : Ledger) → SeesBetween old H → Sees w0.audit (Begin ∷ H)) (said : SaysStopped w1.verdict)
       (τ : Tariff) (H : Ledger) (report : List ℕ) (report_is : w0.report ≡ Some report) (texts : IsOfTexts τ) (history : History τ editions H) (sees : Sees w0.audit H) where
     at_begun : (did : DidLast (audit_lines k) r.rest (behind ≡ []) r.done) (line told : List ℕ) (left : AuditWorld K) → did.last ≡ Begun line told left → FitsHere w0 w1 rates τ H script report
     at_begun did line told left last =
         let w = lines_done k view m (Some script) (Some behind) t0 t1 w0 w1 r old rates same begun did line told left last τ H texts history sees in
         let is = is_left k view m (Some script) (Some behind) t0 t1 w0 w1 r old rates same begun did line told left last in
         let stop : StopFits m τ (world w.new.scene (view w.new.desk)) line told w1.audit (view w1.desk) =
-        subst (λ (x : AuditWorld K). StopFits m τ (world w.new.scene (view w.new.desk)) line told x.audit (view x.desk)) is (w.that.2 n (subst (λ (x : AuditWorld K). x.verdict ≡ verdict.Stopped n) (sym is) said)) in
+        subst (λ (x : AuditWorld K). StopFits m τ (world w.new.scene (view w.new.desk)) line told x.audit (view x.desk)) is (w.that.2 (subst (λ (x : AuditWorld K). SaysStopped x.verdict) (sym is) said)) in
         let each = all_read k r.trace w.steps w.are r.each in
         let all = whole k view m (Some script) (Some behind) t0 t1 w0 w1 r old rates same begun did line told left last in
         let split = took_split k w0 r.did.behind r.trace (Begun line told left ∷ []) all.took in
@@ -101,7 +111,7 @@ module _ {K T : Type 0} (k : Ghosts K T) {V : Type 0} (view : K → V) (m : Mode
     by_last did (Heard line e answer) is ends = absurd ends
     by_last did (audit.Own line own texts) is ends = absurd ends
     by_last did (Begun line told left) is ends = at_begun did line told left is
-    by_last did (Ended line left) is ends = absurd (elsewhere k view m (Some script) (Some behind) t0 t1 w0 w1 r old rates same begun did line left is (n, inl said))
+    by_last did (Ended line left) is ends = absurd (elsewhere k view m (Some script) (Some behind) t0 t1 w0 w1 r old rates same begun did line left is said)
 
     fits_here : FitsHere w0 w1 rates τ H script report
     fits_here = by_last r.ends.0 r.ends.0.last refl r.ends.1
@@ -109,16 +119,16 @@ module _ {K T : Type 0} (k : Ghosts K T) {V : Type 0} (view : K → V) (m : Mode
   -- IF IT IS CALLED STOPPED, it may have been
   module _ (left0 left1 t0 t1 : Option (List ℕ)) (w0 w1 : AuditWorld K) (r : Replayed (audit_lines k) Stopped (turns.Ended (DidAudit k view m) AuditLeaves Stopped w0 w1) left0 left1 t0 t1)
       (old : Audit) (rates : List ℕ) (same : w0.rates ≡ rates) (begun : (H : Ledger) → SeesBetween old H → Sees w0.audit (Begin ∷ H)) (said : SideVerdict) where
-    pub stop_fitted : ((n : ℕ) → said ≡ verdict.Stopped n → w1.verdict ≡ verdict.Stopped n) → FitsIfStopped m left0 w0.report rates (view w0.desk) (view w1.desk) old w1.audit said w0.reach
-    stop_fitted only = if_known k view m modelled alone left0 w0.report _ (λ script report script_is report_is n is τ H texts history between.
-        by script report n (only n is) report_is τ H texts history between left1
+    pub stop_fitted : (SaysStopped said → SaysStopped w1.verdict) → FitsIfStopped m left0 w0.report rates (view w0.desk) (view w1.desk) old w1.audit said w0.reach
+    stop_fitted only = if_known k view m modelled alone left0 w0.report _ (λ script report script_is report_is is τ H texts history between.
+        by script report (only is) report_is τ H texts history between left1
         (subst (λ (o : Option (List ℕ)). Replayed (audit_lines k) Stopped (turns.Ended (DidAudit k view m) AuditLeaves Stopped w0 w1) o left1 t0 t1) script_is r))
       where
-        by : (script report : List ℕ) (n : ℕ) → w1.verdict ≡ verdict.Stopped n → w0.report ≡ Some report → (τ : Tariff) (H : Ledger) → IsOfTexts τ → History τ editions H → SeesBetween old H → (left : Option (List ℕ))
+        by : (script report : List ℕ) → SaysStopped w1.verdict → w0.report ≡ Some report → (τ : Tariff) (H : Ledger) → IsOfTexts τ → History τ editions H → SeesBetween old H → (left : Option (List ℕ))
             → Replayed (audit_lines k) Stopped (turns.Ended (DidAudit k view m) AuditLeaves Stopped w0 w1) (Some script) left t0 t1 → FitsHere w0 w1 rates τ (Begin ∷ H) script report
-        by script report n is report_is τ H texts history between None run = absurd run.consumed
-        by script report n is report_is τ H texts history between (Some behind) run = fits_here script behind t0 t1 w0 w1 run old rates same begun n is τ (Begin ∷ H) report report_is texts (begins history) (begun H between)
+        by script report is report_is τ H texts history between None run = absurd run.consumed
+        by script report is report_is τ H texts history between (Some behind) run = fits_here script behind t0 t1 w0 w1 run old rates same begun is τ (Begin ∷ H) report report_is texts (begins history) (begun H between)
 
   -- it isn't called so
-  pub never_stopped : (script report : Option (List ℕ)) (rates : List ℕ) (v w : V) (old new : Audit) (said : SideVerdict) (reach : Option Reach) → ((n : ℕ) → said ≡ verdict.Stopped n → ⊥) → FitsIfStopped m script report rates v w old new said reach
-  never_stopped script report rates v w old new said reach never = if_known k view m modelled alone script report _ (λ text told script_is report_is n is τ H texts history between. absurd (never n is))
+  pub never_stopped : (script report : Option (List ℕ)) (rates : List ℕ) (v w : V) (old new : Audit) (said : SideVerdict) (reach : Option Reach) → (SaysStopped said → ⊥) → FitsIfStopped m script report rates v w old new said reach
+  never_stopped script report rates v w old new said reach never = if_known k view m modelled alone script report _ (λ text told script_is report_is is τ H texts history between. absurd (never is))

@@ -2,7 +2,6 @@
 use Rattle.std.specs.Prelude.{◌≡◌, ◌⊎◌, ℕ, ◌+◌, ◌≤◌, List, [], ◌∷◌, ◌++◌, Option, None, length, map}
 use Rattle.std.specs.List.{AllByRecursion}
 use Rattle.bench_base.specs.declared.events.Event.{Event}
-use Rattle.bench_base.specs.Events.{IsWholeEvent}
 use Rattle.bench_base.specs.Ledger.{Ledger}
 use Rattle.bench_base.specs.Rules.{editions}
 use Rattle.ledger_moves.specs.Tariffs.{Tariff}
@@ -23,12 +22,17 @@ use Rattle.trace_runs.specs.Runs.{StopLeaves}
 use Rattle.trace_extensions.specs.Fits.{AtKnown, HasTexts, IsCutShort, IsOpen, IsText}
 use Rattle.trace_extensions.specs.Models.{Model, by_model}
 use Rattle.trace_extensions.specs.Places.{Place, place, MayStep}
-use Rattle.trace_extensions.specs.declared.{papers.Reach.Reach, papers.SideVerdict.SideVerdict, papers.SideVerdict.TheVariants.Stopped, papers.SideVerdict.TheVariants.InDoubt}
+use Rattle.trace_extensions.specs.declared.{papers.Reach.Reach, papers.SideVerdict.SideVerdict, papers.SideVerdict.TheVariants.Stopped, papers.SideVerdict.TheVariants.StoppedInOwn, papers.SideVerdict.TheVariants.InDoubt}
 
 -- the bytes end within these lines: they begin the first one; or they are it with its line end, and end within those after it
 abbrev pub IsCutOf : List ℕ → List (List ℕ) → Type 0
 IsCutOf told [] = ⊥
 IsCutOf told (text ∷ more) = (IsPrefixOf told text × IsText told) ⊎ ((rest : List ℕ) × (told ≡ ended text ++ rest) × IsText text × IsCutOf rest more)
+
+-- A step that was asked for at this place may have been done: a stop within it leaves this. If its bytes are forged, it wasn't done.
+abbrev pub LeftByStep : Tariff → Place → Event → Ledger → Type 0
+LeftByStep τ at event K =
+    (BeginsTold τ at.ledger at.left event [] × StopLeaves τ at.ledger event at.left [] K) ⊎ ((Unforged event at.ledger → ⊥) × (K ≡ at.ledger))
 
 -- == at a line ==
 
@@ -68,9 +72,7 @@ module _ {V : Type 0} (m : Model V) (τ : Tariff) (at : World Place V) (line tol
     pub event : Event
     pub did : DidOwn (by_model m) (MayStep τ) at behind line steps (Step event)
     pub silent : told ≡ []
-    pub whole : IsWholeEvent event
-    pub unforged : Unforged event behind.scene.ledger
-    pub leaves : StopLeaves τ behind.scene.ledger event behind.scene.left [] K
+    pub leaves : LeftByStep τ behind.scene event K
     pub keeps : kept ≡ behind.desk
 
   -- IT IS AN OWN LINE, of which nothing, some or all was done
@@ -79,16 +81,27 @@ module _ {V : Type 0} (m : Model V) (τ : Tariff) (at : World Place V) (line tol
     all_of_it : m.IsOwn line → AllDone → OwnStopped
     part_of_it : m.IsOwn line → StepAsked → OwnStopped
 
+  -- NOTHING OF IT WAS BEGUN, whatever line it is
+  pub record Unbegun : Type 0 where
+    pub silent : told ≡ []
+    pub ledger : K ≡ at.scene.ledger
+    pub stays : kept ≡ at.desk
+
   -- it is the one or the other
   pub data StopsAt : Type 0 where
     at_event : EventStopped → StopsAt
     at_own_line : OwnStopped → StopsAt
+    before_it : Unbegun → StopsAt
 
 -- == of a run ==
 
 -- The audit was cut short, or the run is in doubt. It says nothing of a verdict by a reach.
 abbrev pub IsUndecided : Option Reach → SideVerdict → Type 0
 IsUndecided reach verdict = (reach ≡ None → IsCutShort verdict ⊎ ((n : ℕ) × (verdict ≡ InDoubt n)))
+
+-- it is said that the run was stopped
+abbrev pub SaysStopped : SideVerdict → Type 0
+SaysStopped verdict = (n : ℕ) × ((verdict ≡ Stopped n) ⊎ (verdict ≡ StoppedInOwn n))
 
 module _ {V : Type 0} (m : Model V) where
   -- A RUN MAY HAVE BEEN STOPPED SO, over this ledger, with this kept before it: the lines before one of the script were done and answered, and at that line
@@ -141,7 +154,7 @@ module _ {V : Type 0} (m : Model V) where
   module _ (script report : Option (List ℕ)) (rates : List ℕ) (v w : V) (old new : Audit) (verdict : SideVerdict) (reach : Option Reach) where
     -- IF IT IS STOPPED, a run may have been stopped so, from each history that the auditor had; and what that leaves is seen and kept
     abbrev pub FitsIfStopped : Type 0
-    FitsIfStopped = AtKnown m script report (λ text told. (n : ℕ) → verdict ≡ Stopped n
+    FitsIfStopped = AtKnown m script report (λ text told. SaysStopped verdict
         → AtSeen old (λ τ H. (fits : FitsStopped (λ at line told K kept. StopsAt m τ at line told K kept) τ H text told rates v)
         × History τ editions fits.ledger × SeesBetween new fits.ledger × m.Alike w fits.kept))
 

@@ -11,10 +11,10 @@ use Rattle.trace_runs.specs.Verdicts.{Says, status_of}
 use Rattle.trace_runs.specs.declared.{verdict.Ending.Ending, verdict.Verdict.Verdict}
 use Rattle.line_extensions.specs.Desks.{World}
 use Rattle.trace_extensions.specs.Fits.{FitsSo, FitsIfLawful, LawfulIfFits, IsOpen as IsOpenIn}
-use Rattle.trace_extensions.specs.FitsStopped.{StopsAt, at_event, at_own_line, FitsStopped, FitsIfStopped, StoppedIfFits, StoppedInOwnIfFits, IsUndecided}
+use Rattle.trace_extensions.specs.FitsStopped.{StopsAt, at_event, at_own_line, before_it, FitsStopped, FitsIfStopped, StoppedIfFits, StoppedInOwnIfFits, IsUndecided, SaysStopped}
 use Rattle.trace_extensions.specs.Models.{Model}
 use Rattle.trace_extensions.specs.Places.{Place}
-use Rattle.trace_extensions.specs.declared.{papers.Reach.Reach, papers.SideVerdict.SideVerdict, papers.SideVerdict.TheVariants.Lawful, papers.SideVerdict.TheVariants.Stopped}
+use Rattle.trace_extensions.specs.declared.{papers.Reach.Reach, papers.SideVerdict.SideVerdict, papers.SideVerdict.TheVariants.Lawful}
 use Rattle.trace_extensions.specs.Words.{Word, Beside, View, model_of, StartsWith, left_beside}
 
 -- == runs that fit ==
@@ -103,13 +103,15 @@ runs_of (r ∷ audits) = run_of r.judged ∷ runs_of audits
 -- lawful or stopped
 abbrev pub FindsNothing : Judged → Type 0
 FindsNothing (EventsJudged p v) = FindsNothingIn v
-FindsNothing (UnderJudged w p x y reach v) = ((end : Ending) × (v ≡ Lawful end)) ⊎ ((n : ℕ) × (v ≡ Stopped n))
+FindsNothing (UnderJudged w p x y reach v) = ((end : Ending) × (v ≡ Lawful end)) ⊎ SaysStopped v
 
--- The verdict leaves it open whether a run was stopped so. At an own line it does, too, if it is in doubt, and by any reach.
+-- The verdict leaves it open whether a run was stopped so. At an own line it does, too, if it is in doubt, and by any reach; and before a line of which
+-- nothing was begun.
 abbrev pub IsOpenAt : {V : Type 0} (m : Model V) (τ : Tariff) (at : World Place V) (line told : List ℕ) (K : Ledger) (kept : V) → Option Reach → SideVerdict
     → StopsAt m τ at line told K kept → Type 0
 IsOpenAt m τ at line told K kept reach v (at_event stop) = IsOpenIn reach v
 IsOpenAt m τ at line told K kept reach v (at_own_line stop) = IsUndecided reach v
+IsOpenAt m τ at line told K kept reach v (before_it stop) = Unit {0}
 
 abbrev pub IsOpenUnder : (τ : Tariff) (H : Ledger) (k : Beside) (w : Word) (p : Papers) (K : Ledger) (l : Beside) → Option Reach → SideVerdict
     → FitsUnder τ H k w p K l → Type 0

@@ -11,7 +11,8 @@ use Rattle.line_extensions.specs.Desks.{side_grammar}
 use Rattle.line_extensions.specs.declared.extension.Extension.{Ghosts}
 use Rattle.trace_bench.specs.Seeing.{Audit}
 use Rattle.trace_extensions.specs.Fits.{IsOpen, IsText}
-use Rattle.trace_extensions.specs.declared.{papers.Reach.Reach, papers.SideVerdict.SideVerdict, papers.SideVerdict.TheVariants.Stopped, papers.SideVerdict.TheVariants.StoppedInOwn}
+use Rattle.trace_extensions.specs.FitsStopped.{SaysStopped}
+use Rattle.trace_extensions.specs.declared.{papers.Reach.Reach, papers.SideVerdict.SideVerdict}
 
 -- the auditor, the rates that are left, the extension, what is left of the report, what is said if the audit ended, and how far the run is said to have come
 pub record AuditWorld (K : Type 0) : Type 0 where
@@ -28,7 +29,7 @@ audit_world audit rates desk report verdict reach =
 
 -- the run was stopped, and what may have been done is told
 abbrev pub IsStop : {K : Type 0} → AuditWorld K → Type 0
-IsStop w = (n : ℕ) × ((w.verdict ≡ Stopped n) ⊎ (w.verdict ≡ StoppedInOwn n))
+IsStop w = SaysStopped w.verdict
 
 -- a line that is skipped; the line of an event, with the line of the report; an own line, with the texts of its answer; the line of a stop, with the bytes
 -- that the report ends with, and what the audit left; and another line at which the audit ended

@@ -13,11 +13,9 @@ use Rattle.trace_bench.specs.Stopping.{IsBegun}
 use Rattle.trace_extensions.specs.FitsStopped.{IsCutOf}
 use Rattle.trace_extensions.specs.Places.{Place, MayStep}
 
--- The step that was asked for next was begun, and may have been done with a reply that begins so. Or nothing of it was begun, and the report has nothing
--- of the answer to its line. The auditor is left so.
-abbrev pub StepBegun : Tariff → Place → Event → List ℕ → Audit → Type 0
-StepBegun τ at event told now =
-    ((reply : List ℕ) × Unforged event at.ledger × IsBegun τ at.ledger event at.left reply now) ⊎ ((told ≡ []) × Sees now at.ledger)
+-- The step that was asked for next may have been done, or nothing of it was begun. The auditor is left so.
+abbrev pub StepBegun : Tariff → Place → Event → Audit → Type 0
+StepBegun τ at event now = (Unforged event at.ledger × IsBegun τ at.ledger event at.left [] now) ⊎ Sees now at.ledger
 
 -- At this place, for this line, in place of whose answer the report ends with these bytes. The auditor and the extension are left so.
 module _ {K T : Type 0} (k : Ghosts K T) (τ : Tariff) (at : World Place K) (line told : List ℕ) (now : Audit) (desk : K) where
@@ -48,7 +46,7 @@ module _ {K T : Type 0} (k : Ghosts K T) (τ : Tariff) (at : World Place K) (lin
     pub sees : Sees now behind.scene.ledger
     pub left : desk ≡ behind.desk
 
-  -- it is an own line, of which these steps were done, and one more was begun
+  -- it is an own line, of which these steps were done, and one more was asked for: nothing was answered
   pub record OwnBegun : Type 0 where
     pub own : k.Own
     pub is : k.IsOwn own line
@@ -56,8 +54,9 @@ module _ {K T : Type 0} (k : Ghosts K T) (τ : Tariff) (at : World Place K) (lin
     pub behind : World Place K
     pub event : Event
     pub did : DidOwn k (MayStep τ) at behind own steps (Step event)
+    pub silent : told ≡ []
     pub history : History τ editions behind.scene.ledger
-    pub begun : StepBegun τ behind.scene event told now
+    pub begun : StepBegun τ behind.scene event now
     pub left : desk ≡ behind.desk
 
   -- WHAT MAY HAVE BEEN DONE for the line of a stop

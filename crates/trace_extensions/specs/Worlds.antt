@@ -2,6 +2,7 @@
 use Rattle.std.specs.Prelude.{◌≡◌, ◌⊎◌, ℕ, List, [], ◌∷◌, Option}
 use Rattle.std.specs.Io.KnownBytes.{Consumes, IsAtEnd}
 use Rattle.bench_base.specs.declared.events.Event.{Event}
+use Rattle.bench_base.specs.Ledger.{Ledger}
 use Rattle.bench_base.specs.Rules.{editions}
 use Rattle.ledger_moves.specs.Tariffs.{Tariff}
 use Rattle.ledger_moves.specs.Histories.{History}
@@ -12,9 +13,9 @@ use Rattle.line_extensions.specs.Trace.{StepRecord}
 use Rattle.line_extensions.specs.Desks.{World, world, Asks, DidPlain, Answered}
 use Rattle.line_extensions.specs.declared.{extension.Extension.Ghosts, extension.Next.Next, extension.Next.TheVariants.Step, extension.Next.TheVariants.Say}
 use Rattle.trace_bench.specs.Seeing.{Audit, Sees, keeps}
+use Rattle.trace_runs.specs.Between.{SeesBetween}
 use Rattle.line_extensions.specs.Wants.{IsStep}
-use Rattle.trace_extensions.specs.FitsStopped.{IsCutOf, StopFits}
-use Rattle.trace_extensions.specs.declared.papers.SideVerdict.TheVariants.{Stopped}
+use Rattle.trace_extensions.specs.FitsStopped.{IsCutOf, LeftByStep, SaysStopped, StopFits}
 use Rattle.trace_extensions.specs.Exact.{IsMetIn, Only}
 use Rattle.trace_extensions.specs.Models.{Model}
 use Rattle.trace_extensions.specs.Places.{Place, place, MayStep}
@@ -28,6 +29,10 @@ pub record IsSeenAt {K : Type 0} (τ : Tariff) (a : Audit) (rates : List ℕ) (e
   pub sees : Sees a at.scene.ledger
   pub left : at.scene.left ≡ rates
   pub desk : at.desk ≡ extension
+
+-- the step may have been done, and leave a ledger that the auditor then sees
+abbrev pub StepLeft : Tariff → Place → Event → Audit → Type 0
+StepLeft τ at event now = StepBegun τ at event now × ((K : Ledger) × LeftByStep τ at event K × History τ editions K × SeesBetween now K)
 
 -- what is said of a stop
 abbrev pub StopSays : Type 0 → Type 1
@@ -69,6 +74,10 @@ module _ {K T : Type 0} (k : Ghosts K T) where
     pub goes : k.Goes old.desk turn next new.desk
     pub seen : IsSeenAt τ a rates desk new
 
+  -- with a reply of this text
+  abbrev pub AskedWith : List ℕ → Tariff → Event → World Place K → Audit → List ℕ → K → Next → Type 0
+  AskedWith text τ e old a rates desk next = (one : AskedOne τ e old a rates desk next) × (text_of one.d.reply ≡ text)
+
   -- from what it asked for first to what it asks for now, steps may have been done
   pub record AskedSo (τ : Tariff) (old : World Place K) (a : Audit) (rates : List ℕ) (desk : K) (first next : Next) : Type 0 where
     pub steps : List StepRecord
@@ -82,24 +91,33 @@ module _ {K T : Type 0} (k : Ghosts K T) where
     pub asked : AskedSo τ old a rates desk first Say
     pub cut : IsCutOf told (k.texts desk)
 
-  -- it asked for one step more, which was begun
-  pub record OneBegun (τ : Tariff) (old : World Place K) (first : Next) (told : List ℕ) (a : Audit) (desk : K) : Type 0 where
+  -- it asked for one step more, and nothing was answered: P of the place where it was asked for, and of the event
+  pub record OneAsked (P : Place → Event → Type 0) (τ : Tariff) (old : World Place K) (first : Next) (told : List ℕ) (desk : K) : Type 0 where
     pub steps : List StepRecord
     pub new : World Place K
     pub event : Event
     pub asks : Asks k (MayStep τ) old new first steps (Step event)
+    pub silent : told ≡ []
     pub history : History τ editions new.scene.ledger
-    pub begun : StepBegun τ new.scene event told a
+    pub begun : P new.scene event
     pub left : desk ≡ new.desk
+
+  -- that step may have been done
+  abbrev pub OneBegun : Tariff → World Place K → Next → List ℕ → Audit → K → Type 0
+  OneBegun τ old first told a desk = OneAsked (λ at e. StepBegun τ at e a) τ old first told desk
 
   -- for an own line that was begun, all was done, or a step was begun, where the report ends with these bytes of its answer
   pub data LeftSo (τ : Tariff) (old : World Place K) (first : Next) (told : List ℕ) (a : Audit) (desk : K) : Type 0 where
     all_asked : AllAsked τ old first told a desk → LeftSo τ old first told a desk
     one_begun : OneBegun τ old first told a desk → LeftSo τ old first told a desk
 
+  -- all that it asked for was done; or one step more may have been, unless its bytes are forged
+  abbrev pub ReachedSo : Tariff → World Place K → Next → List ℕ → Audit → K → Type 0
+  ReachedSo τ old first told a desk = AllAsked τ old first told a desk ⊎ OneAsked (λ at e. StepLeft τ at e a) τ old first told desk
+
   -- the same at each history
   abbrev pub EndsInOwn : Audit → List ℕ → K → Next → List ℕ → Audit → K → Type 0
-  EndsInOwn old left mid first told new desk = AtEachSeen old (λ τ H. LeftSo τ (world (place H left) mid) first told new desk)
+  EndsInOwn old left mid first told new desk = AtEachSeen old (λ τ H. ReachedSo τ (world (place H left) mid) first told new desk)
 
   -- what it would have done changes nothing, nothing of its answer was written, and all is left as it was
   pub record Rested {V : Type 0} (view : K → V) (m : Model V) (old : World Place K) (first : Next) (told : List ℕ) (a : Audit) (desk : K) : Type 0 where
@@ -130,7 +148,7 @@ module _ {K T : Type 0} (k : Ghosts K T) where
 -- if it is called stopped, a run by the model may have been stopped there
 abbrev pub stop_fits : {K V : Type 0} → (K → V) → Model V → Tariff → StopSays K
 stop_fits view m τ at line told left =
-    (n : ℕ) → left.verdict ≡ Stopped n → StopFits m τ (world at.scene (view at.desk)) line told left.audit (view left.desk)
+    SaysStopped left.verdict → StopFits m τ (world at.scene (view at.desk)) line told left.audit (view left.desk)
 
 module _ {K T : Type 0} (k : Ghosts K T) {V : Type 0} (view : K → V) (m : Model V) where
   -- WHAT AN AUDIT DID for the lines: at each history that the auditor had, it may have been done, and the auditor sees what it leaves. And by the model

@@ -1,5 +1,5 @@
 //! The steps that an extension asks for, taken from what the report has for its line.
-ghost use Rattle.std.specs.Prelude.{◌≡◌, ◌≢◌, ◌+◌, ◌<◌, ◌≤◌, List, length, IfOk, IfSome, MatchResult};
+ghost use Rattle.std.specs.Prelude.{◌≡◌, ◌≢◌, ◌+◌, ◌<◌, ◌≤◌, List, length, IfErr, IfOk, IfSome, MatchResult};
 ghost use Rattle.bench_base.specs.Events.{IsWholeEvent};
 ghost use Rattle.bench_base.specs.declared.events.Reply.{Reply as TheReply};
 ghost use Rattle.bench.specs.declared.benches.TheConstants.{MOST_MESSAGES};
@@ -8,12 +8,12 @@ ghost use Rattle.line_extensions.specs.Trace.{StepRecord};
 ghost use Rattle.line_extensions.specs.declared.extension.Next.{Next as TheNext};
 ghost use Rattle.line_extensions.specs.Wants.{MayAsk, IsStep};
 ghost use Rattle.trace_bench.specs.Seeing.{IsReady, audit_of, keeps};
-ghost use Rattle.trace_extensions.specs.Exact.{IsOpenMiss, IsMet};
+ghost use Rattle.trace_extensions.specs.Exact.{EachReply, IsOpenMiss, IsMet};
 ghost use Rattle.trace_extensions.specs.Models.{by_model, IsToldOf, AreToldOf};
 ghost use Rattle.trace_extensions.specs.Places.{Place, place, MayStep};
 ghost use Rattle.trace_extensions.specs.Rates.{left_of};
 ghost use Rattle.trace_extensions.specs.Takes.{AtEachSeen};
-ghost use Rattle.trace_extensions.specs.Worlds.{AskedSo, AskedOne};
+ghost use Rattle.trace_extensions.specs.Worlds.{AskedSo, AskedOne, AskedWith};
 
 use crate::extension::TracedExtension;
 use crate::rates::RatesLeft;
@@ -34,6 +34,34 @@ fn reply_to<D: TracedExtension>(step: u32, line: &[u8], due: Reply) -> Reply
     match D::failure(step, line) {
         Some(failure) => failure,
         None => due,
+    }
+}
+
+// Takes the reply of this text to a step, and has the extension go on with it.
+pub(crate) fn take_reply<D: TracedExtension>(
+    alloc: Global,
+    auditor: &mut Auditor,
+    rates: &mut RatesLeft,
+    desk: &mut D,
+    event: &Event,
+    text: &[u8],
+) -> Result<Next, Miss>
+    requires whole { IsWholeEvent event.now }
+    requires ready { IsReady (audit_of auditor.old) }
+    requires few { length (audit_of auditor.old).messages < MOST_MESSAGES }
+    ensures ready { IsReady (audit_of auditor.new) }
+    ensures few { length (audit_of auditor.new).messages ≤ length (audit_of auditor.old).messages + 1 }
+    ensures kept { keeps (audit_of auditor.new) ≡ keeps (audit_of auditor.old) }
+    ensures may { IfOk result (λ next. MayAsk next (D.left desk.new)) }
+    ensures fewer { IfOk result (λ next. IsStep next → D.left desk.new < D.left desk.old) }
+    ensures asked { IfOk result (λ next. AtEachSeen (audit_of auditor.old) (λ τ H. AskedWith ⟦<D as Extension>⟧ text.now τ event.now
+        (world (place H (left_of rates.old)) desk.old) (audit_of auditor.new) (left_of rates.new) desk.new next)) }
+    ensures missed { IfErr result (λ why. EachReply event.now (left_of rates.old) (audit_of auditor.old) (λ line. line ≡ text.now)
+        (IsOpenMiss why)) }
+{
+    match take(alloc, auditor, rates, event, text) {
+        Ok(told) => Ok(desk.go_on(&told)),
+        Err(miss) => Err(miss),
     }
 }
 
@@ -65,15 +93,16 @@ fn ask_one<D: TracedExtension>(
         (audit_of auditor.new) (left_of rates.new) desk.new mid) (λ why. IsOpenMiss why)) }
 {
     D::laws();
-    let due = match due_reply(alloc, auditor, rates, event) {
-        Ok(due) => due,
-        Err(miss) => return Err(miss),
-    };
-    let text = write_reply(&reply_to::<D>(step, line, due));
-    match take(alloc, auditor, rates, event, text.as_slice()) {
-        Ok(told) => {
-            transcript.step(event, &text);
-            Ok(desk.go_on(&told))
+    match due_reply(alloc, auditor, rates, event) {
+        Ok(due) => {
+            let text = write_reply(&reply_to::<D>(step, line, due));
+            match take_reply(alloc, auditor, rates, desk, event, text.as_slice()) {
+                Ok(next) => {
+                    transcript.step(event, &text);
+                    Ok(next)
+                }
+                Err(miss) => Err(miss),
+            }
         }
         Err(miss) => Err(miss),
     }

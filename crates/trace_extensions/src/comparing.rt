@@ -154,6 +154,19 @@ pub(crate) fn answer_fits<D: Extension, R: Source>(
     rest_fits(number, desk, papers)
 }
 
+// Whether the first text of its answer begins so.
+pub(crate) fn says<D: Extension>(desk: &D, front: &[u8]) -> bool
+    ensures cut { result ≡ true → IsText front.now → IsCutOf front.now (D.texts desk.now) }
+    ensures never { result ≡ false → (text : List ℕ) (more : List (List ℕ)) → D.texts desk.now ≡ text ∷ more → IsPrefixOf front.now text → ⊥ }
+{
+    if desk.count() == 0 {
+        return false;
+    }
+    let mut text = Line::new();
+    desk.put(0, &mut text);
+    text.as_slice().starts_with(front)
+}
+
 // Ends the audit at an own line of this number, of which all was done, if its answer begins with this prefix, with which the report ends: with this
 // verdict.
 pub(crate) fn answer_begins<D: Extension, R: Source>(

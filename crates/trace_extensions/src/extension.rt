@@ -45,10 +45,11 @@ pub trait TracedExtension: Extension {
             (did : DidOwn (by_model model) (MayStep τ) old new line steps next) → did.first ≡ first.now → did.desk ≡ view self.now
             → IsIdle model old new next };
 
-    /// What this prefix of an answer has of the reply to the step of this number, counted from 1, if no step follows that one: none, some or all of it,
-    /// without its line end. If some of the answer was written, and nothing of the reply in it, it is a failure whose answer begins so. `None` if no such
-    /// answer begins so.
-    fn reply_in(step: u32, prefix: &[u8]) -> Option<&[u8]>;
+    /// A failure of a node in the step of this number, counted from 1, with which the first line of the answer begins so: with none, some or all of the
+    /// bytes of that line, without its line end. `None` if there is none.
+    fn failure_in(step: u32, prefix: &[u8]) -> Option<Reply>
+        ensures found { IfSome result (λ reply. (line : List ℕ) × Fails step line reply × IsPrefixOf prefix.now line) }
+        ensures none { IfNone result ((line : List ℕ) (reply : Reply) → Fails step line reply → IsPrefixOf prefix.now line → ⊥) };
 
     /// Laws of its model. Nothing is done.
     fn laws()

@@ -8,21 +8,20 @@ ghost use Rattle.line_extensions.specs.Trace.{StepRecord};
 ghost use Rattle.line_extensions.specs.Wants.{MayAsk, IsStep};
 ghost use Rattle.line_extensions.specs.declared.extension.Next.{Next as TheNext};
 ghost use Rattle.line_runs.specs.Lines.{IsOneLine};
-ghost use Rattle.trace_bench.specs.Seeing.{IsReady, Sees, audit_of, keeps};
+ghost use Rattle.trace_bench.specs.Seeing.{IsReady, audit_of, keeps};
 ghost use Rattle.trace_bench.specs.Stopping.{IsPrefixOf};
 ghost use Rattle.trace_extensions.specs.Exact.{EachOwnLeft, IsMet};
 ghost use Rattle.trace_extensions.specs.Fits.{IsCutShort, IsOpen, IsText, IsUnbegun};
-ghost use Rattle.trace_extensions.specs.FitsStopped.{TellsOwnStop};
+ghost use Rattle.trace_extensions.specs.FitsStopped.{IsCutOf, TellsOwnStop};
 ghost use Rattle.trace_extensions.specs.Models.{by_model, AreToldOf};
 ghost use Rattle.trace_extensions.specs.Places.{Place, place, MayStep};
 ghost use Rattle.trace_extensions.specs.Rates.{left_of};
-ghost use Rattle.trace_extensions.specs.Takes.{AtEachSeen, IsBegunAt};
-ghost use Rattle.trace_extensions.specs.Worlds.{EndsInOwn, StopsInOwn};
+ghost use Rattle.trace_extensions.specs.Takes.{AtEachSeen};
+ghost use Rattle.trace_extensions.specs.Worlds.{AskedOne, EndsInOwn, StepLeft, StopsInOwn};
 ghost use Rattle.trace_extensions.specs.declared.papers.SideVerdict.{SideVerdict as Verdict};
-ghost use Rattle.trace_extensions.specs.declared.taking.Miss.{Miss as TheMiss};
 
-use crate::asking::{ask_all, ask_some};
-use crate::comparing::answer_begins;
+use crate::asking::{ask_all, ask_some, take_reply};
+use crate::comparing::{answer_begins, says};
 use crate::extension::TracedExtension;
 use crate::papers::{Papers, SideVerdict};
 use crate::plain::miss;
@@ -30,8 +29,10 @@ use crate::rates::RatesLeft;
 use crate::taking::{Miss, take_prefix};
 use bench_base::events::Event;
 use bench_base::stream::Source;
+use ledger_laws::laws::histories;
 use line_extensions::{Extension, Next};
 use line_runs::lines::{LineRead, read_line};
+use script_text::write_reply;
 use std::alloc::Global;
 use text_streams::ReadAhead;
 use trace_bench::Auditor;
@@ -109,28 +110,11 @@ fn own_done<R: Source, D: TracedExtension>(
     }
 }
 
-// Ends the audit at a step of an own line that is not taken. If its bytes are forged, and the report has nothing of the line's answer, the run may have been
-// stopped before it.
-fn step_missed<R: Source>(number: u32, why: Miss, prefix: &[u8], papers: &mut Papers<R>)
-    ensures report { papers.new.report ≡ papers.old.report }
-    ensures unstopped { (n : ℕ) → papers.new.verdict ≢ Verdict.Stopped n }
-    ensures in_own { (n : ℕ) → papers.new.verdict ≡ Verdict.StoppedInOwn n → (why ≡ TheMiss.Forged) × (prefix.now ≡ []) }
-    ensures reach { papers.new.reach ≡ papers.old.reach }
-{
-    match why {
-        Miss::Forged if prefix.is_empty() => papers.end(SideVerdict::StoppedInOwn(number)),
-        _ => miss(papers, number, why),
-    }
-}
-
-// Ends the audit at the step of this number of an own line: the report ends with this prefix of the line's answer, and it is in doubt whether the step
-// was done.
-fn step_in_doubt<R: Source, D: TracedExtension>(
+// Ends the audit at an own line of which nothing was answered: one step more was asked for, and it is in doubt whether it was done.
+fn step_open<R: Source>(
     alloc: Global,
     number: u32,
-    step: u32,
     event: &Event,
-    prefix: &[u8],
     auditor: &mut Auditor,
     rates: &RatesLeft,
     papers: &mut Papers<R>,
@@ -144,20 +128,61 @@ fn step_in_doubt<R: Source, D: TracedExtension>(
     ensures report { papers.new.report ≡ papers.old.report }
     ensures unstopped { (n : ℕ) → papers.new.verdict ≢ Verdict.Stopped n }
     ensures in_own { (n : ℕ) → papers.new.verdict ≡ Verdict.StoppedInOwn n
-        → ((reply : List ℕ) × IsBegunAt event.now reply (left_of rates.now) (audit_of auditor.old) (audit_of auditor.new))
-        ⊎ ((prefix.now ≡ []) × AtEachSeen (audit_of auditor.old) (λ τ H. Sees (audit_of auditor.new) H)) }
+        → AtEachSeen (audit_of auditor.old) (λ τ H. StepLeft τ (place H (left_of rates.now)) event.now (audit_of auditor.new)) }
     ensures reach { papers.new.reach ≡ papers.old.reach }
 {
-    papers.may_reach_more = true;
-    let Some(reply) = D::reply_in(step, prefix) else {
-        return papers.end(SideVerdict::Wrong(number));
-    };
-    match take_prefix(alloc, auditor, rates, event, reply) {
+    histories();
+    match take_prefix(alloc, auditor, rates, event, &[]) {
         Ok(()) => {
-            papers.transcript.step_begun(event, reply);
+            papers.transcript.step_begun(event, &[]);
             papers.end(SideVerdict::StoppedInOwn(number));
         }
-        Err(why) => step_missed(number, why, prefix, papers),
+        // The run was stopped before it.
+        Err(Miss::Forged) => papers.end(SideVerdict::StoppedInOwn(number)),
+        Err(why) => miss(papers, number, why),
+    }
+}
+
+// Ends the audit at an own line, with this prefix of whose answer the report ends: a node failed in the step of this number, `step`, as it tells.
+fn step_failed<R: Source, D: TracedExtension>(
+    alloc: Global,
+    number: u32,
+    step: u32,
+    event: &Event,
+    prefix: &[u8],
+    desk: &mut D,
+    auditor: &mut Auditor,
+    rates: &mut RatesLeft,
+    papers: &mut Papers<R>,
+)
+    requires whole { IsWholeEvent event.now }
+    requires ready { IsReady (audit_of auditor.old) }
+    requires few { length (audit_of auditor.old).messages < MOST_MESSAGES }
+    ensures ready { IsReady (audit_of auditor.new) }
+    ensures few { length (audit_of auditor.new).messages ≤ length (audit_of auditor.old).messages + 1 }
+    ensures kept { keeps (audit_of auditor.new) ≡ keeps (audit_of auditor.old) }
+    ensures report { papers.new.report ≡ papers.old.report }
+    ensures unstopped { (n : ℕ) → papers.new.verdict ≢ Verdict.Stopped n }
+    ensures asked { (n : ℕ) → papers.new.verdict ≡ Verdict.StoppedInOwn n → AtEachSeen (audit_of auditor.old) (λ τ H. AskedOne ⟦<D as Extension>⟧ τ
+        event.now (world (place H (left_of rates.old)) desk.old) (audit_of auditor.new) (left_of rates.new) desk.new TheNext.Say) }
+    ensures cut { (n : ℕ) → papers.new.verdict ≡ Verdict.StoppedInOwn n → IsText prefix.now → IsCutOf prefix.now (D.texts desk.new) }
+    ensures reach { papers.new.reach ≡ papers.old.reach }
+{
+    let Some(failure) = D::failure_in(step, prefix) else {
+        return papers.end(SideVerdict::Wrong(number));
+    };
+    let text = write_reply(&failure);
+    match take_reply(alloc, auditor, rates, desk, event, text.as_slice()) {
+        Err(why) => miss(papers, number, why),
+        Ok(Next::Say) => {
+            if !says(desk, prefix) {
+                return papers.end(SideVerdict::Wrong(number));
+            }
+            // It may be another failure, so the transcript has no answer.
+            papers.transcript.step_begun(event, text.as_slice());
+            papers.end(SideVerdict::StoppedInOwn(number));
+        }
+        Ok(Next::Stop | Next::Step(_)) => papers.end(SideVerdict::Memory),
     }
 }
 
@@ -196,8 +221,16 @@ fn own_reached<R: Source, D: TracedExtension>(
             if auditor.message_count() != sent {
                 return papers.end(SideVerdict::Memory);
             }
-            let step = steps.saturating_add(1);
-            step_in_doubt::<R, D>(alloc, number, step, &event, prefix, auditor, rates, papers);
+            papers.may_reach_more = true;
+            if prefix.is_empty() {
+                return step_open(alloc, number, &event, auditor, rates, papers);
+            }
+            let Some(step) = steps.checked_add(1) else {
+                return papers.end(SideVerdict::Memory);
+            };
+            step_failed(
+                alloc, number, step, &event, prefix, desk, auditor, rates, papers,
+            );
         }
         Ok(Some(Next::Say)) => answer_begins(alloc, number, desk, prefix, verdict, papers),
         Ok(Some(Next::Stop)) => papers.end(SideVerdict::Memory),

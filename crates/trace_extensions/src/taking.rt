@@ -127,6 +127,7 @@ pub(crate) fn take_prefix(
     ensures forged { IfErr result (λ why. why ≡ TheMiss.Forged → IsSame (audit_of auditor.old) (audit_of auditor.new)) }
     ensures missed { IfErr result (λ why. EachReply event.now (left_of rates.now) (audit_of auditor.old) (λ text. IsPrefixOf prefix.now text)
         (IsOpenMiss why)) }
+    ensures not_unforged { IfErr result (λ why. why ≡ TheMiss.Forged → AtEachSeen (audit_of auditor.old) (λ τ H. Unforged event.now H → ⊥)) }
 {
     match admit(alloc, auditor, event) {
         Ok(()) => {}

@@ -14,6 +14,7 @@ ghost use Rattle.trace_extensions.specs.DepartmentsModel.{Kept, DepartmentsFail,
 ghost use Rattle.trace_extensions.specs.ManifestModel.{ManifestView, ManifestFails, manifest_model, manifest_view, no_piece_front};
 ghost use Rattle.trace_extensions.specs.StatementModel.{Fails, statement_model};
 
+use crate::comparing::says;
 use crate::extension::TracedExtension;
 use bench_base::events::Reply;
 use bench_base::words::Node;
@@ -122,23 +123,27 @@ fn failure_of(node: &Node, text: &[u8]) -> Option<Reply>
     None
 }
 
+// A failure of this node whose text begins so.
+fn failure_with(node: &Node, prefix: &[u8]) -> Option<Reply>
+    ensures found { IfSome result (λ reply. IsPrefixOf prefix.now (text_of reply) × IsFailure reply node.now) }
+    ensures none { IfNone result ((reply : TheReply) → IsPrefixOf prefix.now (text_of reply) → IsFailure reply node.now → ⊥) }
+{
+    let power = Reply::Power(*node);
+    if begins(&power, prefix) {
+        return Some(power);
+    }
+    let fault = Reply::Fault(*node);
+    if begins(&fault, prefix) {
+        return Some(fault);
+    }
+    None
+}
+
 // Whether a failure of this node begins so.
 fn begins_failure(node: &Node, prefix: &[u8]) -> bool
     ensures { IsTrue result ↔ BeginsFailure prefix.now node.now }
 {
     begins(&Reply::Power(*node), prefix) || begins(&Reply::Fault(*node), prefix)
-}
-
-// Whether the first text of its answer begins so.
-fn says<D: Extension>(desk: &D, front: &[u8]) -> bool
-    ensures never { result ≡ false → (text : List ℕ) (more : List (List ℕ)) → D.texts desk.now ≡ text ∷ more → IsPrefixOf front.now text → ⊥ }
-{
-    if desk.count() == 0 {
-        return false;
-    }
-    let mut text = Line::new();
-    desk.put(0, &mut text);
-    text.as_slice().starts_with(front)
 }
 
 // What the answer of a check begins with if the scan of the piece of this number fails.
@@ -174,8 +179,8 @@ impl<N: Nv> TracedExtension for Desk<N> {
         }
     }
 
-    fn reply_in(_step: u32, prefix: &[u8]) -> Option<&[u8]> {
-        Some(prefix)
+    fn failure_in(_step: u32, prefix: &[u8]) -> Option<Reply> {
+        failure_with(&Node::Verifier, prefix)
     }
 
     fn laws() {}
@@ -203,8 +208,8 @@ impl<N: Nv> TracedExtension for Departments<N> {
         }
     }
 
-    fn reply_in(_step: u32, prefix: &[u8]) -> Option<&[u8]> {
-        Some(prefix)
+    fn failure_in(_step: u32, prefix: &[u8]) -> Option<Reply> {
+        failure_with(&Node::Host, prefix)
     }
 
     fn laws() {}
@@ -238,16 +243,16 @@ impl TracedExtension for Checker {
         }
     }
 
-    // Within its front, the answer tells that the scan failed, and not yet how: a loss of power stands for both failures.
-    fn reply_in(step: u32, prefix: &[u8]) -> Option<&[u8]> {
+    // Before the reply begins, each failure is told alike.
+    fn failure_in(step: u32, prefix: &[u8]) -> Option<Reply> {
         let front = no_piece(step);
-        if prefix.is_empty() {
-            return Some(&[]);
-        }
         if front.as_slice().starts_with(prefix) {
-            return Some(b"power verifier");
+            return Some(Reply::Power(Node::Verifier));
         }
-        prefix.strip_prefix(front.as_slice())
+        match prefix.strip_prefix(front.as_slice()) {
+            Some(text) => failure_with(&Node::Verifier, text),
+            None => None,
+        }
     }
 
     fn laws() {}
@@ -272,8 +277,8 @@ impl TracedExtension for StatementDesk {
         false
     }
 
-    fn reply_in(_step: u32, prefix: &[u8]) -> Option<&[u8]> {
-        Some(prefix)
+    fn failure_in(_step: u32, _prefix: &[u8]) -> Option<Reply> {
+        None
     }
 
     fn laws() {}

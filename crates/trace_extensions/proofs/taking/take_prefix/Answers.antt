@@ -6,6 +6,8 @@ use Rattle.trace_extensions.proofs.Missed.{may_get}
 use Rattle.trace_bench.specs.Seeing.{audit_of}
 use Rattle.trace_bench.specs.Stopping.{IsBegun}
 use Rattle.trace_bench.proofs.Same.{same_sees}
+use Rattle.trace_extensions.specs.Exact.{IsOpenMiss}
+use Rattle.trace_extensions.specs.declared.taking.Miss.{Miss}
 use Rattle.trace_extensions.proofs.taking.take_prefix.Goals as goal
 
 pub returns-in-Ok-stop-clause-begun : goal.returns-in-Ok-stop-clause-begun
@@ -25,3 +27,6 @@ returns-in-Err-Wrong-clause-missed c = λ τ H texts history sees d event may be
     let unbegun = (rw c.in-Err-Wrong.field-0-is at c.in-Err-Wrong.ensures.stopped) τ H texts history free here in
     let tells : MayTell τ H _ d = subst (λ (left : List ℕ). MayTell τ H left d) (sym c.left.ensures) may in
     unbegun.none d.reply (record { moves = may_get τ H c.args.event.now _ c.args.prefix.now d event tells; whole = may.whole; begins = begins })
+
+pub returns-in-Err-clause-not_unforged : goal.returns-in-Err-clause-not_unforged
+returns-in-Err-clause-not_unforged c = λ forged τ H texts history sees free. subst (λ (why : Miss). IsOpenMiss why) forged (c.in-Err.ensures.missed τ H history sees free)

@@ -1,4 +1,4 @@
-use Rattle.std.proofs.Common.{◌≡◌, ◌∙◌, ◌++◌, List, ℕ, Option, Some, None, IfSome, IfNone, sym, ap}
+use Rattle.std.proofs.Common.{◌≡◌, ◌∙◌, ◌++◌, List, ℕ, Some, None, sym, ap}
 use Rattle.std.proofs.lemmas.Bool.Decides.{Decides-eqb}
 use Rattle.std.proofs.lemmas.Slice.Eq.{strip_prefix_is}
 use Rattle.bench_base.specs.declared.{words.Node.TheVariants.Verifier, events.Reply.Reply}
@@ -8,15 +8,8 @@ use Rattle.trace_bench.specs.Prefixes.{IsFailure}
 use Rattle.trace_extensions.specs.ManifestModel.{no_piece_front}
 use Rattle.trace_extensions.proofs.Compared.{same_rest}
 use Rattle.trace_extensions.proofs.ManifestModel.{front_text}
+use Rattle.trace_extensions.proofs.Settled.{if_none, if_some}
 use Rattle.trace_extensions.proofs.words.CheckerTracedExtension.failure.Goals as goal
-
-if_some : {X : Type 0} (o : Option X) (P Q : X → Type 0) → ((x : X) → P x → Q x) → IfSome o P → IfSome o Q
-if_some None P Q f p = tt
-if_some (Some x) P Q f p = f x p
-
-if_none : {X : Type 0} (o : Option X) (P Q : Type 0) → (P → Q) → IfNone o P → IfNone o Q
-if_none None P Q f p = f p
-if_none (Some x) P Q f p = tt
 
 pub returns-in-Some-clause-found : goal.returns-in-Some-clause-found
 returns-in-Some-clause-found c =
