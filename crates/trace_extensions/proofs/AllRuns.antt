@@ -21,15 +21,15 @@ use Rattle.trace_runs.proofs.Alike.{between}
 use Rattle.trace_runs.proofs.EachRun.{run_history, run_fits, run_seen, run_found}
 use Rattle.trace_extensions.specs.Places.{Place}
 use Rattle.trace_extensions.specs.Models.{Model}
-use Rattle.trace_extensions.specs.FitsStopped.{EventStopped, OwnStopped, StopsAt, at_event, at_own_line, before_it, FitsStopped}
+use Rattle.trace_extensions.specs.FitsStopped.{AgreedStop, EventStopped, SaysStopped, StopsAt, at_event, at_own_line, before_it, FitsStopped}
 use Rattle.trace_extensions.specs.ClaimsModel.{Standing, claims_model}
 use Rattle.trace_extensions.specs.DepartmentsModel.{Kept, departments_model}
 use Rattle.trace_extensions.specs.Fits.{FitsSo, IsLeftSo}
 use Rattle.trace_extensions.specs.ManifestModel.{ManifestView, manifest_model}
-use Rattle.trace_extensions.specs.declared.{papers.Reach.Reach, papers.SideVerdict.SideVerdict, papers.SideVerdict.TheVariants.Stopped}
+use Rattle.trace_extensions.specs.declared.{papers.Reach.Reach, papers.SideVerdict.SideVerdict}
 use Rattle.trace_extensions.specs.Words.{Word, OfClaims, OfDepartments, OfManifests, OfStatements, Beside, View, model_of, StartsWith, left_beside}
-use Rattle.trace_extensions.specs.Runs.{FitsOne, Fit, Judged, EventsJudged, UnderJudged, IsJudged, beside_after, run_of, AuditedRun, AreAudited, runs_of, FindsNothing, IsOpen, AreExact, StopsUnder, to_its_end, to_its_stop, IsJudgedUnder, IsOpenAt, NoneOpen}
-use Rattle.trace_extensions.proofs.Forgetting.{Forgets, fits_from, event_at, own_at, stopped_from}
+use Rattle.trace_extensions.specs.Runs.{FitsOne, Fit, Judged, EventsJudged, UnderJudged, IsJudged, beside_after, run_of, AuditedRun, AreAudited, runs_of, FindsNothing, Decides, AreExact, StopsUnder, to_its_end, to_its_stop, IsJudgedUnder, DecidesAt, AllDecide}
+use Rattle.trace_extensions.proofs.Forgetting.{Forgets, fits_from, event_at, agreed_at, stopped_from}
 use Rattle.trace_extensions.proofs.StopHistories.{stop_history}
 use Rattle.trace_extensions.proofs.Said.{claims_forget, departments_forget, manifests_forget}
 
@@ -76,10 +76,10 @@ event_kind τ = record {
   too = λ m Like f s t line told L kept at like x. event_at m Like f τ s t line told L kept at like x;
 }
 
-abbrev own_kind : (τ : Tariff) → StopKind τ
-own_kind τ = record {
-  S = λ m at line told L kept. OwnStopped m τ at line told L kept;
-  too = λ m Like f s t line told L kept at like x. own_at m Like f τ s t line told L kept at like x;
+abbrev own_kind : Option Reach → (τ : Tariff) → StopKind τ
+own_kind reach τ = record {
+  S = λ m at line told L kept. AgreedStop m τ at line told L kept reach;
+  too = λ m Like f s t line told L kept at like x. agreed_at m Like f τ s t line told L kept at like reach x;
 }
 
 module _ (τ : Tariff) (kind : StopKind τ) (H : Ledger) (k : Beside) (p : Papers) where
@@ -176,10 +176,10 @@ module _ (one : (x y : Reply) → IsWholeReply x → IsWholeReply y → text_of 
 
     -- a run under a word that was stopped
     module _ (k : Beside) (w : Word) (p : Papers) (x y : View w) (reach : Option Reach) (v : SideVerdict) (judged : IsJudgedUnder a k w p x y reach v b) (K : Ledger) (l : Beside) (stops : StopsUnder τ H k w p K l) where
-      stop_left : (n : ℕ) (L : Ledger) (kept : View w) → v ≡ Stopped n → SeesBetween b L → (model_of w).Alike y kept → stops.fits.ledger ≡ L → left_beside w k stops.fits.kept ≡ left_beside w k kept
+      stop_left : (L : Ledger) (kept : View w) → SaysStopped v → SeesBetween b L → (model_of w).Alike y kept → stops.fits.ledger ≡ L → left_beside w k stops.fits.kept ≡ left_beside w k kept
           → FindsNothing (UnderJudged w p x y reach v) × Leaves τ b K k l (UnderJudged w p x y reach v)
-      stop_left n L kept is sees like ledger beside = (
-        inr (n, inl is),
+      stop_left L kept is sees like ledger beside = (
+        inr is,
         record {
           history = subst (λ (X : Ledger). History τ editions X) (sym stops.ledger) (stop_history τ (model_of w) (Begin ∷ H) p.script p.report p.rates stops.before (begins history) stops.fits);
           sees = subst (λ (X : Ledger). SeesBetween b X) (sym (stops.ledger ∙ ledger)) sees;
@@ -187,25 +187,25 @@ module _ (one : (x y : Reply) → IsWholeReply x → IsWholeReply y → text_of 
         },
       )
 
-      found_stop : (stop : StopsAt (model_of w) τ stops.fits.behind stops.fits.line stops.fits.told stops.fits.ledger stops.fits.kept) → (IsOpenAt (model_of w) τ stops.fits.behind stops.fits.line stops.fits.told stops.fits.ledger stops.fits.kept reach v stop → ⊥)
+      found_stop : (stop : StopsAt (model_of w) τ stops.fits.behind stops.fits.line stops.fits.told stops.fits.ledger stops.fits.kept) → DecidesAt (model_of w) τ stops.fits.behind stops.fits.line stops.fits.told stops.fits.ledger stops.fits.kept reach v stop
           → FindsNothing (UnderJudged w p x y reach v) × Leaves τ b K k l (UnderJudged w p x y reach v)
       found_stop (at_event event) closed =
           let g = stops_from τ (event_kind τ) H k p w stops.before x stops.starts judged.starts
           (with_stop (model_of w) _ (λ at line told L kept. EventStopped (model_of w) τ at line told L kept) τ (Begin ∷ H) p.script p.report p.rates stops.before stops.fits event) in
           elim (judged.stops τ H texts history seen g.0) [
-            | inl told ↦ stop_left told.0 g.0.ledger g.0.kept told.1 told.2 told.3 g.1 g.2
+            | inl told ↦ stop_left g.0.ledger g.0.kept (told.0, inl told.1) told.2 told.3 g.1 g.2
             | inr is_open ↦ absurd (closed is_open)
           ]
       found_stop (at_own_line own) closed =
-          let g = stops_from τ (own_kind τ) H k p w stops.before x stops.starts judged.starts
-          (with_stop (model_of w) _ (λ at line told L kept. OwnStopped (model_of w) τ at line told L kept) τ (Begin ∷ H) p.script p.report p.rates stops.before stops.fits own) in
+          let g = stops_from τ (own_kind reach τ) H k p w stops.before x stops.starts judged.starts
+          (with_stop (model_of w) _ (λ at line told L kept. AgreedStop (model_of w) τ at line told L kept reach) τ (Begin ∷ H) p.script p.report p.rates stops.before stops.fits (own, closed.0)) in
           elim (judged.own_stops τ H texts history seen g.0) [
-            | inl told ↦ stop_left told.0 g.0.ledger g.0.kept told.1 told.2 told.3 g.1 g.2
-            | inr undecided ↦ absurd (closed undecided)
+            | inl told ↦ stop_left g.0.ledger g.0.kept told.0 told.1 told.2 g.1 g.2
+            | inr undecided ↦ absurd (closed.1 undecided)
           ]
-      found_stop (before_it none) closed = absurd (closed tt)
+      found_stop (before_it none) closed = absurd closed
 
-    one_found : (k : Beside) (r : Judged) → IsJudged a k r b → (K : Ledger) (l : Beside) (fits : FitsOne τ H k (run_of r) K l) → (IsOpen τ H k K l r fits → ⊥) → FindsNothing r × Leaves τ b K k l r
+    one_found : (k : Beside) (r : Judged) → IsJudged a k r b → (K : Ledger) (l : Beside) (fits : FitsOne τ H k (run_of r) K l) → Decides τ H k K l r fits → FindsNothing r × Leaves τ b K k l r
     one_found k (EventsJudged p v) says K l fits closed =
         let nothing = run_found one line E p.script p.report p.rates a b τ H texts history seen v says closed K fits.0 in (
           nothing,
@@ -237,10 +237,10 @@ module _ (one : (x y : Reply) → IsWholeReply x → IsWholeReply y → text_of 
       subst (λ (m : Beside). Fit τ H m (runs_of (r ∷ audits))) (sym same) (w.0, w.1, w.2, rest)
 
   none_found : (τ : Tariff) (a : Audit) (H : Ledger) (k l : Beside) (audits : List AuditedRun) → IsOfTexts τ → History τ editions H → SeesBetween a H → l ≡ k → AreAudited a k audits
-      → (fit : Fit τ H l (runs_of audits)) → NoneOpen τ H l audits fit → FindNothing audits
+      → (fit : Fit τ H l (runs_of audits)) → AllDecide τ H l audits fit → FindNothing audits
   none_found τ a H k l [] texts history seen same are fit closed = tt
   none_found τ a H k l (r ∷ audits) texts history seen same are fit closed =
-      let f = subst (λ (m : Beside). (x : Fit τ H m (runs_of (r ∷ audits))) × NoneOpen τ H m (r ∷ audits) x) same (fit, closed) in
+      let f = subst (λ (m : Beside). (x : Fit τ H m (runs_of (r ∷ audits))) × AllDecide τ H m (r ∷ audits) x) same (fit, closed) in
       let w = one_found τ H texts history a r.after seen k r.judged are.0 f.0.0 f.0.1 f.0.2 f.1.0 in
       (w.0, none_found τ r.after f.0.0 (beside_after k r.judged) f.0.1 audits texts w.1.history w.1.sees w.1.beside are.1 f.0.3 f.1.1)
 

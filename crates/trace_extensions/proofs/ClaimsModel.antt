@@ -1,4 +1,4 @@
--- The desk of claims moves as its model does, each move of the model is determined, and its answer tells whether the verifier failed.
+-- The desk of claims moves as its model does, each move of the model is determined, it asks for scans, and its answer tells whether the verifier failed.
 use Rattle.std.proofs.Common.{◌≡◌, ◌≢◌, ◌⊎◌, inl, inr, ℕ, ◌+◌, ◌-◌, List, [], ◌∷◌, get_or, Option, Some, None, Bool, true, false, ◌==◌, refl, sym, ap, ◌∙◌, subst, arith}
 use Rattle.std.specs.Prelude.{codes}
 use Rattle.std.proofs.lemmas.Option.{same_Some}
@@ -16,7 +16,7 @@ use Rattle.ledger_moves.specs.Tariffs.{Tariff}
 use Rattle.script_text.specs.Texts.{reply_words, text_of, IsWholeReply, told_as, told, told_refusal}
 use Rattle.line_extensions.specs.Trace.{StepRecord}
 use Rattle.line_extensions.specs.Desks.{World, world, Asks, DidOwn}
-use Rattle.line_extensions.specs.declared.{extension.Next.Next, extension.Next.TheVariants.Say, extension.Next.TheVariants.Stop}
+use Rattle.line_extensions.specs.declared.{extension.Next.Next, extension.Next.TheVariants.Step, extension.Next.TheVariants.Say, extension.Next.TheVariants.Stop}
 use Rattle.line_extensions.proofs.Wanting.{no_step, step_event, ends_at}
 use Rattle.spoil_claims.specs.Claims.{Claims, kept, last_claim, credits, mark_of, scan_number}
 use Rattle.spoil_claims.specs.ClaimsDesk.{claims_desk}
@@ -29,9 +29,10 @@ use Rattle.spoil_claims.specs.declared.answer.Answer.TheVariants as answers
 use Rattle.spoil_claims.proofs.Answering.{CameOut, Done_, Worn_, Broke, either_by, rests_rows, tried}
 use Rattle.spoil_claims.proofs.Reading.{one_own}
 use Rattle.trace_bench.specs.Prefixes.{IsFailure}
-use Rattle.trace_extensions.specs.Models.{IsModelOf, IsDetermined, AreToldOf, IsToldOf, TellsFailures, by_model}
+use Rattle.trace_extensions.specs.Models.{IsModelOf, IsDetermined, IsSure, AsksSurely, EndsByFailure, AreFailures, AreToldOf, IsToldOf, TellsFailures, by_model}
 use Rattle.trace_extensions.specs.Places.{Place, MayStep}
 use Rattle.trace_extensions.specs.ClaimsModel.{Standing, standing, claims_view, ByWorn, standing_keeper, claims_model, ClaimFails}
+use Rattle.trace_extensions.proofs.Failures.{no_event, same_event, accepted_fine, text_failures}
 use Rattle.trace_extensions.proofs.Sure.{FailsAt, failure_or_none}
 
 -- == the desk moves as the model does ==
@@ -213,6 +214,79 @@ claims_determined = record {
   sees = λ v w z turn p q. p ∙ sym q;
 }
 
+-- == what it asks for ==
+
+module _ (v w : Standing) (e : Event) where
+  none_said : Step e ≡ Say → IsSure e
+  none_said says = absurd (no_event e says)
+
+  scan_sure : (x : ClaimRow) → Step e ≡ scan_of x → IsSure e
+  scan_sure x is = inl (scan_number x.claim, x.mark, same_event e (ev.ScanHex (scan_number x.claim) x.mark) is)
+
+  tries_sure : (b : Bool) (x : ClaimRow) (meant : Answer) → ByWorn b x meant (scan_of x) v (Step e) w → IsSure e
+  tries_sure true x meant did = none_said did.0
+  tries_sure false x meant did = scan_sure x did.0
+
+  either_sure : {P Q : Type 0} (b : Bool) → (P → IsSure e) → (Q → IsSure e) → Either b P Q → IsSure e
+  either_sure true f h did = f did
+  either_sure false f h did = h did
+
+  kept_sure : (o : Option ClaimRow) (c u : ℕ) (mark : List ℕ) → ByKept standing_keeper o c u mark v (Step e) w → IsSure e
+  kept_sure (Some x) c u mark (inl known) = either_sure x.credited (λ again. none_said again.says.ends) (λ scans. scan_sure x scans.asks) known.1
+  kept_sure (Some x) c u mark (inr other) = none_said other.1.ends
+  kept_sure None c u mark did =
+      either_sure (c == last_claim v.rows + 1)
+      (λ fits. either_sure (c == 1025) (λ full. none_said full.ends)
+      (λ tries. tries_sure (is_worn v.rows (c - 1)) (row_for c u mark) (answers.Scanning c) tries) fits)
+      (λ wrong. none_said wrong.ends) did
+
+  begins_sure : (own : ClaimLine) → Begins standing_keeper v own (Step e) w → IsSure e
+  begins_sure (Claim c u mark) begins = kept_sure (kept v.rows c) c u mark begins
+  begins_sure (Credits u) begins = none_said begins.ends
+  begins_sure Reserved begins = none_said begins.ends
+
+module _ (v w : Standing) (next : Next) where
+  -- after a scan it answers
+  credit_ends : (b : Bool) (x : ClaimRow) (meant : Answer) → ByWorn b x meant Say v next w → next ≡ Say
+  credit_ends true x meant did = did.0
+  credit_ends false x meant did = did.0
+
+  scanned_ends : (c : ℕ) (reply : Reply) → Scanned standing_keeper c reply v next w → next ≡ Say
+  scanned_ends c reply scanned = elim scanned.did [
+    | inl did ↦ credit_ends (is_worn v.rows (scanned.row.claim - 1)) (as_credited scanned.row) (answers.Credited scanned.row.claim did.1.mark false) did.1.tries
+    | inr other ↦ other.1.ends
+  ]
+
+  goes_ends : (s : Answer) (reply : Reply) → GoesOn standing_keeper s reply v next w → next ≡ Say
+  goes_ends (answers.Scanning c) reply goes = scanned_ends c reply goes
+  goes_ends _ reply goes = goes.0
+
+  -- a scan that failed keeps nothing
+  scanned_rests : (c : ℕ) (reply : Reply) (n : Node) → IsFailure reply n → Scanned standing_keeper c reply v next w → w.rows ≡ v.rows
+  scanned_rests c reply n fails scanned = elim scanned.did [
+    | inl did ↦ absurd (accepted_fine reply did.0 n fails)
+    | inr other ↦ other.1.rests
+  ]
+
+  failed_rests : (s : Answer) (reply : Reply) (n : Node) → IsFailure reply n → GoesOn standing_keeper s reply v next w → w.rows ≡ v.rows
+  failed_rests (answers.Scanning c) reply n fails goes = scanned_rests c reply n fails goes
+  failed_rests _ reply n fails goes = ap (λ (z : Standing). z.rows) goes.1
+
+-- it asks for scans alone
+pub claims_asks : AsksSurely claims_model
+claims_asks = record {
+  first = λ v w line e begins. begins_sure v w e begins.0 begins.2;
+  then = λ v w turn e goes. absurd (no_event e (goes_ends v w (Step e) v.said turn.reply goes));
+}
+
+-- a failure ends its line, and the claims are as they were before it
+pub claims_ends : EndsByFailure claims_model
+claims_ends = λ v w turn next n fails goes. (goes_ends v w next v.said turn.reply goes, failed_rests v w next v.said turn.reply n fails goes)
+
+-- what a line tells are failures of the verifier
+pub claims_failures : AreFailures ClaimFails
+claims_failures = text_failures Verifier
+
 -- == what an answer tells ==
 
 first_of_power : (m : Node) → get_or (text_of (r.Power m)) 0 0 ≡ 112
@@ -257,10 +331,6 @@ credited_sound c mark again = record { no_power = λ is. omega (arith, is); no_f
 
 worn_sound : IsSound (codes "worn desk")
 worn_sound = record { no_power = λ is. omega (arith, is); no_fault = λ is. omega (arith, is) }
-
-accepted_fine : (reply : Reply) → IsAccepted reply → (m : Node) → IsFailure reply m → ⊥
-accepted_fine reply is m (inl p) = let two : r.Accepted is.0 is.1 is.2 is.3 ≡ r.Power m = sym is.4 ∙ p in cc
-accepted_fine reply is m (inr p) = let two : r.Accepted is.0 is.1 is.2 is.3 ≡ r.Fault m = sym is.4 ∙ p in cc
 
 -- a reply that is told as a failure is that failure
 power_by : (p : Report) (x : Reply) (m : Node) → told_as p x ≡ r.Power m → x ≡ r.Power m

@@ -90,9 +90,6 @@ abbrev pub CutFrom : List (List ℕ) → ℕ → Option (List ℕ) → Option (L
 CutFrom texts n a b = (first : List ℕ) (more : List (List ℕ)) (told : List ℕ) → texts ≡ first ∷ more → IsCutOf told more → a ≡ Some told
     → (rest : List ℕ) × (b ≡ Some rest) × IsCutOf rest (drop (n - 1) more)
 
-pub cut_none : (texts : List (List ℕ)) (a : Option (List ℕ)) → CutFrom texts 1 a a
-cut_none texts a = λ first more told are cut is. (told, is, cut)
-
 -- it ends within the next text, or goes on behind it
 abbrev pub NextCut : List ℕ → List (List ℕ) → Option (List ℕ) → Type 0
 NextCut t rest b = ((told : List ℕ) × (b ≡ Some told) × IsPrefixOf told t × IsText told) ⊎ ((told : List ℕ) × HasNext b t told × IsText t × IsCutOf told rest)

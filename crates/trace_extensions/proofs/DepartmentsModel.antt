@@ -20,7 +20,7 @@ use Rattle.row_store.specs.Commits.{CommitsRow}
 use Rattle.script_text.specs.Texts.{reply_words, text_of, IsWholeReply, told, told_as}
 use Rattle.line_extensions.specs.Desks.{World, world, Asks, Asked, DidOwn}
 use Rattle.line_extensions.specs.Trace.{StepRecord}
-use Rattle.line_extensions.specs.declared.{extension.Next.Next, extension.Next.TheVariants.Say, extension.Next.TheVariants.Stop}
+use Rattle.line_extensions.specs.declared.{extension.Next.Next, extension.Next.TheVariants.Step, extension.Next.TheVariants.Say, extension.Next.TheVariants.Stop}
 use Rattle.line_extensions.specs.Wants.{IsStep}
 use Rattle.line_extensions.proofs.Wanting.{no_step, step_event, ends_at}
 use Rattle.host_departments.specs.Courses.{Follows, ByFailed, Tries, Says, Sends, Assigns, AssignsBy, SpentBy, Begins, Takes, TakesBy, Hears, GoesOn}
@@ -40,8 +40,9 @@ use Rattle.host_departments.proofs.OneLine.{one_line_of}
 use Rattle.host_departments.proofs.Places.{one_count}
 use Rattle.trace_bench.specs.Prefixes.{IsFailure}
 use Rattle.trace_extensions.specs.DepartmentsModel.{Kept, kept, departments_view, tried, kept_keeper, departments_model, DepartmentsFail}
-use Rattle.trace_extensions.specs.Models.{by_model, IsModelOf, IsDetermined, IsSure, TellsFailures}
+use Rattle.trace_extensions.specs.Models.{by_model, IsModelOf, IsDetermined, IsSure, AsksSurely, EndsByFailure, AreFailures, TellsFailures}
 use Rattle.trace_extensions.specs.Places.{Place, MayStep}
+use Rattle.trace_extensions.proofs.Failures.{no_event, same_event, sent_fine, text_failures}
 use Rattle.trace_extensions.proofs.Sure.{FailsAt, failure_or_none}
 
 kept_is : (v w : Kept) → v.rows ≡ w.rows → v.said ≡ w.said → v ≡ w
@@ -348,6 +349,44 @@ module _ (v w : Kept) (next : Next) where
   hears_plainly d j reply sent (inl did) = let out = takes_plainly d j did.0 (did.2.limit - spent v.rows d) did.2.takes in (out.0, inl (did.1.is_sent, out.1))
   hears_plainly d j reply sent (inr did) = (did.1.ends, inr (ap (λ (s : Answer). said_texts s) did.1.answers))
 
+-- == what they ask for ==
+
+module _ (v w : Kept) (next : Next) where
+  -- after the message it is answered
+  goes_ends : (s : Answer) (reply : Reply) (sent : Option (List ℕ)) → moves.GoesOn kept_keeper s reply sent v next w → next ≡ Say
+  goes_ends (answers.Sending d j) reply sent goes = (hears_plainly v w next d j reply sent goes).0
+  goes_ends _ reply sent goes = goes.0
+
+  -- a message that failed keeps nothing
+  heard_rests : (d j : ℕ) (reply : Reply) (sent : Option (List ℕ)) (n : Node) → IsFailure reply n → moves.Hears kept_keeper d j reply sent v next w → w.rows ≡ v.rows
+  heard_rests d j reply sent n fails (inl did) = absurd (sent_fine reply did.1.is_sent n fails)
+  heard_rests d j reply sent n fails (inr did) = did.1.rests
+
+  failed_rests : (s : Answer) (reply : Reply) (sent : Option (List ℕ)) (n : Node) → IsFailure reply n → moves.GoesOn kept_keeper s reply sent v next w → w.rows ≡ v.rows
+  failed_rests (answers.Sending d j) reply sent n fails goes = heard_rests d j reply sent n fails goes
+  failed_rests _ reply sent n fails goes = ap (λ (z : Kept). z.rows) goes.1
+
+-- they ask for messages of jobs alone
+pub departments_asks : AsksSurely departments_model
+departments_asks = record {
+  first = λ v w line e begins. elim (begins_plainly v w (Step e) begins.0 begins.3) [
+    | inl plain ↦ absurd (no_event e plain.0)
+    | inr waits ↦ inr (inl (waits.1, same_event e (ev.Send waits.1) waits.2.asks))
+  ];
+  then = λ v w turn e goes. absurd (no_event e (goes_ends v w (Step e) v.said turn.reply (sent_in turn.entries) goes));
+}
+
+-- a failure ends its line, and the quotas and jobs are as they were before it
+pub departments_ends : EndsByFailure departments_model
+departments_ends = λ v w turn next n fails goes.
+    (goes_ends v w next v.said turn.reply (sent_in turn.entries) goes, failed_rests v w next v.said turn.reply (sent_in turn.entries) n fails goes)
+
+-- what a line tells are failures of the host
+pub departments_failures : AreFailures DepartmentsFail
+departments_failures = text_failures Host
+
+-- == failures by their texts ==
+
 -- a reply that is told as a failure of the host is one
 told_power : (p : Report) (x : Reply) (m : Node) → told_as p x ≡ r.Power m → x ≡ r.Power m
 told_power (report.Refusal (OfVerifier why)) x m is = absurd (cc is)
@@ -356,11 +395,6 @@ told_power _ x m is = is
 told_fault : (p : Report) (x : Reply) (m : Node) → told_as p x ≡ r.Fault m → x ≡ r.Fault m
 told_fault (report.Refusal (OfVerifier why)) x m is = absurd (cc is)
 told_fault _ x m is = is
-
--- a debit that was sent is no failure
-no_failure : (reply : Reply) → IsSentDebit reply → IsFailure reply Host → ⊥
-no_failure reply sent (inl power) = let wrong : r.SentDebit sent.0 sent.1 ≡ r.Power Host = sym sent.2 ∙ power in cc
-no_failure reply sent (inr fault) = let wrong : r.SentDebit sent.0 sent.1 ≡ r.Fault Host = sym sent.2 ∙ fault in cc
 
 module _ (one : (x y : Reply) → IsWholeReply x → IsWholeReply y → text_of x ≡ text_of y → told x ≡ told y) where
   -- a reply with the text of a failure of the host is that failure
@@ -430,7 +464,7 @@ module _ (one : (x y : Reply) → IsWholeReply x → IsWholeReply y → text_of 
             record {
               sure = sure;
               told = elim (failure_or_none τ old.scene.ledger old.scene.left s sure asked.did.may) [
-                | inl fails ↦ absurd (no_failure s.reply (subst (λ (x : Reply). IsSentDebit x) reply_is sent) (by_host fails))
+                | inl fails ↦ absurd (sent_fine s.reply (subst (λ (x : Reply). IsSentDebit x) reply_is sent) Host (by_host fails))
                 | inr none ↦ inr (λ reply fails. other_text other.0 other.2.no_power other.2.no_fault 1 reply fails, none)
               ];
             },

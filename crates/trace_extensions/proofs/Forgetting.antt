@@ -1,5 +1,5 @@
 -- A model that forgets what it said last: what it does for a line is the same from each of two views that are alike.
-use Rattle.std.proofs.Common.{◌≡◌, ℕ, List, [], ◌∷◌, refl, sym, ◌∙◌, ap, subst}
+use Rattle.std.proofs.Common.{◌≡◌, ℕ, List, [], ◌∷◌, Option, Some, None, refl, sym, ◌∙◌, ap, subst}
 use Rattle.bench_base.specs.Ledger.{Ledger}
 use Rattle.ledger_moves.specs.Tariffs.{Tariff}
 use Rattle.node_turns.specs.declared.turn.Turn.{Turn}
@@ -11,9 +11,10 @@ use Rattle.line_extensions.specs.declared.{extension.Next.Next, extension.Next.T
 use Rattle.trace_runs.specs.Fitting.{BeginsTold}
 use Rattle.trace_runs.specs.Runs.{StopLeaves}
 use Rattle.trace_extensions.specs.Fits.{FitsSo}
-use Rattle.trace_extensions.specs.FitsStopped.{EventStopped, OwnStopped, not_begun, all_of_it, part_of_it, FitsStopped}
+use Rattle.trace_extensions.specs.FitsStopped.{AgreedStop, ComesTo, EventStopped, OwnStopped, not_begun, all_of_it, part_of_it, FitsStopped}
 use Rattle.trace_extensions.specs.Models.{Model, by_model}
 use Rattle.trace_extensions.specs.Places.{Place, place, MayStep}
+use Rattle.trace_extensions.specs.declared.papers.Reach.{Reach}
 
 pub record Forgets {V : Type 0} (m : Model V) (Like : V → V → Type 0) : Type 0 where
   pub same : (a : V) → Like a a
@@ -105,7 +106,7 @@ module _ {V : Type 0} (m : Model V) (Like : V → V → Type 0) (f : Forgets m L
       subst (λ (v : V). Like v t.desk) (sym x.stays) like,
     )
 
-    pub own_at : OwnStopped m τ s line told L kept → Too (λ at line told L kept. OwnStopped m τ at line told L kept)
+    own_at : OwnStopped m τ s line told L kept → Too (λ at line told L kept. OwnStopped m τ at line told L kept)
     own_at (not_begun is x) = (
       t.desk,
       not_begun is (record {
@@ -143,6 +144,20 @@ module _ {V : Type 0} (m : Model V) (Like : V → V → Type 0) (f : Forgets m L
       }),
       f.same kept,
     )
+
+    -- it came as far
+    comes_at : (steps : Option ℕ) (stop : OwnStopped m τ s line told L kept) → ComesTo m τ s line told L kept steps stop → (w : OwnStopped m τ t line told L (own_at stop).0) × ComesTo m τ t line told L (own_at stop).0 steps w
+    unfolding own_at
+    comes_at None (not_begun is x) comes = ((own_at (not_begun is x)).1, tt)
+    comes_at None (all_of_it is x) comes = absurd comes
+    comes_at None (part_of_it is x) comes = absurd comes
+    comes_at (Some count) (not_begun is x) comes = absurd comes
+    comes_at (Some count) (all_of_it is x) comes = ((own_at (all_of_it is x)).1, comes)
+    comes_at (Some count) (part_of_it is x) comes = ((own_at (part_of_it is x)).1, comes)
+
+    pub agreed_at : (reach : Option Reach) → AgreedStop m τ s line told L kept reach → Too (λ at line told L kept. AgreedStop m τ at line told L kept reach)
+    agreed_at None (stop, agrees) = let w = own_at stop in (w.0, (w.1, tt), w.2)
+    agreed_at (Some reach) (stop, agrees) = let w = own_at stop in (w.0, comes_at reach.steps stop agrees, w.2)
 
   -- so a run that may have been stopped so from the one may from the other, with the same ledger behind it
   pub stopped_from : (AtLine : World Place V → List ℕ → List ℕ → Ledger → V → Type 0) (τ : Tariff) (H : Ledger) (script report rates : List ℕ) (v w : V)

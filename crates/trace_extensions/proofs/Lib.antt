@@ -9,7 +9,10 @@ pub mod DepartmentsHold
 pub mod Cuts
 pub mod DepartmentsModel
 pub mod EventStops
-pub mod Forgetting
+pub mod FailedSteps
+pub mod Failures
+mod Forgetting
+pub mod HaveReaches
 pub mod Idle
 pub mod Known
 pub mod Lined
@@ -22,7 +25,8 @@ pub mod OnlySteps
 pub mod OwnStops
 pub mod Ran
 pub mod Read
-pub mod Rests
+pub mod Reached
+mod Rests
 pub mod RunFits
 pub mod Said
 pub mod Settled

@@ -1,5 +1,5 @@
 -- What became of one line of an audit.
-use Rattle.std.proofs.Common.{◌≡◌, ◌≢◌, ◌⊎◌, inl, inr, ℕ, List, [], ◌++◌, flat_map, Option, Some, None, IfNone, IfSome, refl, sym, ap, ◌∙◌, subst}
+use Rattle.std.proofs.Common.{◌≡◌, ◌≢◌, ◌⊎◌, inl, inr, ℕ, List, [], ◌∷◌, ◌++◌, flat_map, append_assoc, Option, Some, None, IfNone, IfSome, refl, sym, ap, ◌∙◌, subst}
 use Rattle.std.proofs.KnownBytes.{Appends-nil, Consumes-nil}
 use Rattle.std.specs.Io.KnownBytes.{Consumes, IsAtEnd}
 use Rattle.std.specs.List.{AllByRecursion}
@@ -11,15 +11,17 @@ use Rattle.ledger_moves.specs.Tariffs.{Tariff}
 use Rattle.ledger_moves.specs.Histories.{moves}
 use Rattle.node_turns.specs.declared.turn.Turn.{Turn}
 use Rattle.script_text.specs.Grammar.{Spells, IsSkipped}
+use Rattle.script_text.specs.Texts.{text_of}
 use Rattle.script_text.proofs.EachEvent.{one_event_of, no_event_skipped}
 use Rattle.line_runs.specs.Lines.{IsOneLine, ended}
 use Rattle.line_runs.specs.Turns.{Reported, LineEnd}
 use Rattle.line_runs.specs.declared.status.Status.TheVariants as status
 use Rattle.line_runs.specs.declared.{status.SideStatus.SideStatus, status.SideStatus.TheVariants.Run, status.SideStatus.TheVariants.Stopped}
-use Rattle.line_extensions.specs.Trace.{StepRecord}
+use Rattle.line_extensions.specs.Trace.{StepRecord, Skipped, Did}
 use Rattle.line_extensions.specs.Desks.{World, world, DidOwn}
 use Rattle.line_extensions.specs.Events.{IsLineOf}
-use Rattle.line_extensions.specs.SideTrace.{SideStep}
+use Rattle.line_extensions.specs.SideTrace.{SideStep, Plain, Broken}
+use Rattle.line_extensions.specs.SideTrace.{Own as OwnStep}
 use Rattle.line_extensions.specs.Wants.{IsAlone, IsEvent}
 use Rattle.line_extensions.specs.declared.{extension.Extension.Ghosts, extension.Next.Next, extension.Next.TheVariants.Say, extension.Next.TheVariants.Stop}
 use Rattle.script_replay.specs.Trace.{ledger_by}
@@ -29,8 +31,8 @@ use Rattle.trace_runs.specs.Fitting.{BeginsTold}
 use Rattle.trace_runs.specs.Runs.{StopLeaves}
 use Rattle.trace_runs.proofs.Alike.{between}
 use Rattle.trace_extensions.specs.Exact.{EachReply, HasNext, MayBe, EachMayBe, MayAnswer, IsMet, EachLeft, EachOwnLeft, NoStop, TellsStops}
-use Rattle.trace_extensions.specs.Fits.{IsCutShort, IsOpen, IsText}
-use Rattle.trace_extensions.specs.FitsStopped.{IsCutOf, at_event, before_it, EventStopped, OwnStopped, not_begun, all_of_it, part_of_it, TellsStop, TellsOwnStop}
+use Rattle.trace_extensions.specs.Fits.{EndsEarly, IsCutShort, IsOpen, IsText, IsUnbegun}
+use Rattle.trace_extensions.specs.FitsStopped.{AgreedStop, ComesTo, IsCutOf, at_event, before_it, EventStopped, OwnStopped, Unbegun, not_begun, all_of_it, part_of_it, TellsStop, TellsOwnStop}
 use Rattle.trace_extensions.specs.Models.{Model, by_model, AreAlike, IsModelOf, IsDetermined, TellsFailures}
 use Rattle.trace_extensions.specs.Places.{Place, place, turn_at, MayStep}
 use Rattle.trace_extensions.specs.Steps.{AuditWorld, audit_world, IsStop, IsKnown, Passed, Heard, Own, Begun, Ended, audit_lines}
@@ -38,10 +40,14 @@ use Rattle.trace_extensions.specs.Takes.{AtEachSeen, TakesLine, EndsWithin}
 use Rattle.trace_extensions.specs.Worlds.{AuditLeaves, AskedSo, DidAudit, LeftSo, all_asked, one_begun, ReadsInOwn, ReadsStop, stop_fits}
 use Rattle.trace_extensions.specs.Stops.{LeftAt, event_begun, none_begun, own_done, own_begun}
 use Rattle.trace_extensions.proofs.Known.{known_left, known_fits, reached_left, reached_fits}
-use Rattle.trace_extensions.proofs.StoppedFits.{open_undecided}
 use Rattle.trace_extensions.proofs.OnlyLines.{OwnMayBe, if_skipped, if_passed, if_own, met_event}
 use Rattle.trace_extensions.specs.declared.papers.{Reach.Reach, SideVerdict.SideVerdict}
 use Rattle.trace_extensions.specs.declared.papers.SideVerdict.TheVariants as verdict
+
+-- what goes on with a line has a first byte
+first_byte : (report : Option (List ℕ)) (line told : List ℕ) → report ≡ Some (ended line ++ told) → (byte : ℕ) × (more : List ℕ) × (report ≡ Some (byte ∷ more))
+first_byte report [] told is = (10, told, is)
+first_byte report (b ∷ line) told is = (b, ended line ++ told, is)
 
 neither : (v : SideVerdict) → ((n : ℕ) → v ≡ verdict.Stopped n → ⊥) → ((n : ℕ) → v ≡ verdict.StoppedInOwn n → ⊥) → ((n : ℕ) × ((v ≡ verdict.Stopped n) ⊎ (v ≡ verdict.StoppedInOwn n))) → ⊥
 neither v none own (n, inl is) = none n is
@@ -84,7 +90,7 @@ module _ {K T : Type 0} (k : Ghosts K T) {V : Type 0} (view : K → V) (m : Mode
   skipped_stops : (τ : Tariff) (at : World Place V) (report : Option (List ℕ)) → IsSkipped line → NoStop m τ at line report
   skipped_stops τ at report is = record {
     event = λ told L kept stop report_is. no_event_skipped stop.event line stop.is.spells is;
-    own = λ told L kept stop report_is. let w = (modelled.own line).0 (own_of τ at told L kept stop) in (alone w.0 line w.1).not_skipped is;
+    own = λ told L kept stop report_is. let w = (modelled.own line).0 (own_of τ at told L kept stop.0) in (alone w.0 line w.1).not_skipped is;
   }
 
   -- a line that is left to the bench is no own one
@@ -105,6 +111,10 @@ module _ {K T : Type 0} (k : Ghosts K T) {V : Type 0} (view : K → V) (m : Mode
       )
 
   -- == lines ==
+
+  -- the first text of an answer tells of the failures of nodes
+  abbrev pub Tells : (ℕ → List ℕ → Reply → Type 0) → Type 0
+  Tells Fails = (τ : Tariff) (old new : World Place V) (own : List ℕ) (steps : List StepRecord) → DidOwn (by_model m) (MayStep τ) old new own steps Say → TellsFailures Fails steps (m.texts new.desk)
 
   pub skipped : (w : AuditWorld K) (taken : Option (List ℕ)) → IsSkipped line → End None w w taken taken
   skipped w taken is = LineEnd.did (record {
@@ -131,9 +141,9 @@ module _ {K T : Type 0} (k : Ghosts K T) {V : Type 0} (view : K → V) (m : Mode
   EndsAt old new = (told : List ℕ) × Consumes old.report new.report told × IsAtEnd new.report
       × AtEachSeen old.audit (λ τ H. LeftAt k τ (world (place H old.rates) old.desk) line told new.audit new.desk × stop_fits view m τ (world (place H old.rates) old.desk) line told new)
 
-  -- whatever may have been done for the line, the verdict leaves it open
+  -- if something may have been done for the line, the audit ended early
   abbrev pub Missed : AuditWorld K → AuditWorld K → Type 0
-  Missed old new = AtEachSeen old.audit (λ τ H. EachMayBe m τ (world (place H old.rates) (view old.desk)) line old.report (λ mid told. IsOpen new.reach new.verdict))
+  Missed old new = AtEachSeen old.audit (λ τ H. EachMayBe m τ (world (place H old.rates) (view old.desk)) line old.report (λ mid told. EndsEarly new.reach new.verdict))
 
   -- if a run was stopped there, that is told
   abbrev pub Told : AuditWorld K → AuditWorld K → Type 0
@@ -175,17 +185,17 @@ module _ {K T : Type 0} (k : Ghosts K T) {V : Type 0} (view : K → V) (m : Mode
         reported = (tt, refl);
       })
 
-  -- a verdict that leaves it open tells of each stop
-  open_told : (old new : AuditWorld K) → IsOpen new.reach new.verdict → Told old new
-  open_told old new is_open = λ τ H texts history sees. record {
-    event = λ told L kept stop report_is. inr is_open;
-    own = λ told L kept stop report_is. inr (open_undecided new.reach new.verdict is_open);
+  -- an audit that was cut short tells of each stop
+  cut_told : (old new : AuditWorld K) → IsCutShort new.verdict → Told old new
+  cut_told old new cut = λ τ H texts history sees. record {
+    event = λ told L kept stop report_is. inr (inl cut);
+    own = λ told L kept stop report_is. inr (inl (inl cut));
   }
 
   -- no stop is said
   pub ends_without : (old new : AuditWorld K) (taken : Option (List ℕ)) → keeps new.audit ≡ keeps old.audit → new.reach ≡ old.reach → IsCutShort new.verdict → ((n : ℕ) → new.verdict ≡ verdict.Stopped n → ⊥)
       → ((n : ℕ) → new.verdict ≡ verdict.StoppedInOwn n → ⊥) → End (Some Stopped) old new taken taken
-  ends_without old new taken kept reach cut none own = ends old new taken kept reach (inl (inl cut)) (λ τ H texts history sees mid told b may. inl cut) (open_told old new (inl cut)) by
+  ends_without old new taken kept reach cut none own = ends old new taken kept reach (inl (inl cut)) (λ τ H texts history sees mid told b may. inl cut) (cut_told old new cut) by
     where
       by : IsStop new → EndsAt old new
       by (n, inl is) = absurd (none n is)
@@ -211,7 +221,7 @@ module _ {K T : Type 0} (k : Ghosts K T) {V : Type 0} (view : K → V) (m : Mode
         event = λ told L kept stop report_is.
             let w = stopped_event τ (world (place H old.rates) (view old.desk)) told L kept e is stop in
             called L kept stop.stays (stops told report_is τ H texts history sees L w.0 w.1);
-        own = λ told L kept stop report_is. absurd (passed_not_own τ (world (place H old.rates) (view old.desk)) told L kept (modelled.passes old.desk line passes) stop);
+        own = λ told L kept stop report_is. absurd (passed_not_own τ (world (place H old.rates) (view old.desk)) told L kept (modelled.passes old.desk line passes) stop.0);
       }
 
       by : IsStop new → EndsAt old new
@@ -236,12 +246,59 @@ module _ {K T : Type 0} (k : Ghosts K T) {V : Type 0} (view : K → V) (m : Mode
           )
       by (n, inr stop) = absurd (own n stop)
 
-  -- nothing of the line was begun
-  pub unbegun : (old new : AuditWorld K) (taken : Option (List ℕ)) → new.audit ≡ old.audit → new.desk ≡ old.desk → new.reach ≡ old.reach → IsOpen new.reach new.verdict → ((n : ℕ) → new.verdict ≡ verdict.Stopped n → ⊥)
-      → ((n : ℕ) → new.verdict ≡ verdict.StoppedInOwn n → Consumes old.report new.report [] × IsAtEnd new.report) → End (Some Stopped) old new taken taken
-  unbegun old new taken audit same reach is_open none own =
-      ends old new taken (ap (λ (a : Audit). keeps a) audit) reach (inl is_open) (λ τ H texts history sees mid told b may. is_open) (open_told old new is_open) by
+  -- whatever may have been done for a line that is not skipped, the report has some of its answer
+  some_text : (Fails : ℕ → List ℕ → Reply → Type 0) → Tells Fails → (IsSkipped line → ⊥) → (τ : Tariff) (at mid : World Place V) (report : Option (List ℕ)) (told : List ℕ) (b : SideStep (List ℕ)) → MayBe m τ at mid line report told b
+      → (byte : ℕ) × (more : List ℕ) × (report ≡ Some (byte ∷ more))
+  some_text Fails tells some τ at mid report told (Plain (Skipped x)) may = absurd (some (subst (λ (l : List ℕ). IsSkipped l) may.line_is may.is))
+  some_text Fails tells some τ at mid report told (Plain (Did x d)) may = first_byte report (text_of d.reply) told may.report_is
+  some_text Fails tells some τ at mid report told (OwnStep x own steps texts) may =
+      let t = tells τ at mid own steps may.did.did in
+      let are : texts ≡ t.first ∷ t.more = may.did.answer ∙ t.are in
+      first_byte report t.first (flat_map ended t.more ++ told)
+      (may.report_is ∙ ap (λ (l : List (List ℕ)). Some (flat_map ended l ++ told)) are ∙ ap (λ (l : List ℕ). Some l) (append_assoc (ended t.first) (flat_map ended t.more) told))
+  some_text Fails tells some τ at mid report told (Broken x own steps) may = absurd (may.whole tt)
+
+  -- a run of which nothing was begun there, as the reach says
+  none_begun_so : (reach : Option Reach) → IsUnbegun reach number → (τ : Tariff) (at : World Place V) (told : List ℕ) (L : Ledger) (kept : V) → AgreedStop m τ at line told L kept reach → Unbegun m τ at line told L kept
+  none_begun_so None is τ at told L kept stop = absurd is
+  none_begun_so (Some reach) is τ at told L kept (stop, agrees) = by stop (subst (λ (s : Option ℕ). ComesTo m τ at line told L kept s stop) is.1 agrees)
     where
+      by : (stop : OwnStopped m τ at line told L kept) → ComesTo m τ at line told L kept None stop → Unbegun m τ at line told L kept
+      by (not_begun own x) comes = record { silent = x.silent; ledger = x.ledger; stays = x.stays }
+      by (all_of_it own x) comes = absurd comes
+      by (part_of_it own x) comes = absurd comes
+
+  -- nothing of the line was begun
+  pub unbegun : (old new : AuditWorld K) (taken : Option (List ℕ)) (Fails : ℕ → List ℕ → Reply → Type 0) → Tells Fails → (IsSkipped line → ⊥) → new.audit ≡ old.audit → new.desk ≡ old.desk → new.reach ≡ old.reach
+      → IsUnbegun new.reach number → IsOpen new.reach new.verdict → ((byte : ℕ) (more : List ℕ) → old.report ≡ Some (byte ∷ more) → (new.verdict ≡ verdict.PastReach number) ⊎ IsCutShort new.verdict)
+      → (old.report ≡ Some [] → (new.verdict ≡ verdict.StoppedInOwn number) ⊎ IsCutShort new.verdict) → ((n : ℕ) → new.verdict ≡ verdict.Stopped n → ⊥)
+      → ((n : ℕ) → new.verdict ≡ verdict.StoppedInOwn n → Consumes old.report new.report [] × IsAtEnd new.report) → End (Some Stopped) old new taken taken
+  unbegun old new taken Fails tells some audit same reach none_of_it is_open past stops none own =
+      ends old new taken (ap (λ (a : Audit). keeps a) audit) reach (inl is_open) early told by
+    where
+      early : Missed old new
+      early = λ τ H texts history sees mid told b may.
+          let w = some_text Fails tells some τ (world (place H old.rates) (view old.desk)) mid old.report told b may in
+          elim (past w.0 w.1 w.2) [
+            | inl is ↦ inr (number, none_of_it, is)
+            | inr cut ↦ inl cut
+          ]
+
+      told : Told old new
+      told = λ τ H texts history sees. record {
+        event = λ told L kept stop report_is. inr is_open;
+        own = λ told L kept stop report_is.
+            let x = none_begun_so new.reach none_of_it τ (world (place H old.rates) (view old.desk)) told L kept stop in
+            elim (stops (report_is ∙ ap (λ (l : List ℕ). Some l) x.silent)) [
+              | inl is ↦ inl (
+                (number, inr is),
+                between new.audit L (subst (λ (X : Ledger). Sees new.audit X) (sym x.ledger) (subst (λ (a : Audit). Sees a H) (sym audit) sees)),
+                subst (λ (v : V). m.Alike (view new.desk) v) (ap (λ (d : K). view d) same ∙ sym x.stays) (alike.same (view new.desk)),
+              )
+              | inr cut ↦ inr (inl (inl cut))
+            ];
+      }
+
       by : IsStop new → EndsAt old new
       by (n, inl stop) = absurd (none n stop)
       by (n, inr stop) =
@@ -269,11 +326,8 @@ module _ {K T : Type 0} (k : Ghosts K T) {V : Type 0} (view : K → V) (m : Mode
       → MayAnswer m Fails τ (world (place H left) (view mid)) new first text more steps → HasNext report text (flat_map ended more ++ told) → P τ new told)
 
   -- Q of what a stop may leave of an own line of which this was asked first
-  abbrev pub StopsLeave : Audit → List ℕ → K → Next → Option (List ℕ) → (Ledger → V → Type 0) → Type 0
-  StopsLeave audit left mid first report Q = AtEachSeen audit (λ τ H. (told : List ℕ) → report ≡ Some told → EachOwnLeft m τ (place H left) (view mid) first told Q)
-
-  abbrev pub Tells : (ℕ → List ℕ → Reply → Type 0) → Type 0
-  Tells Fails = (τ : Tariff) (old new : World Place V) (own : List ℕ) (steps : List StepRecord) → DidOwn (by_model m) (MayStep τ) old new own steps Say → TellsFailures Fails steps (m.texts new.desk)
+  abbrev pub StopsLeave : Audit → List ℕ → K → Next → Option (List ℕ) → Option Reach → (Ledger → V → Type 0) → Type 0
+  StopsLeave audit left mid first report reach Q = AtEachSeen audit (λ τ H. (told : List ℕ) → report ≡ Some told → EachOwnLeft m τ (place H left) (view mid) first told reach Q)
 
   -- of an own line that was begun
   own_left : (τ : Tariff) (H : Ledger) (rates : List ℕ) (desk mid desk1 : K) (audit1 : Audit) (own : k.Own) (first : Next) (told : List ℕ) → k.IsOwn own line → k.Begins desk own first mid
@@ -314,7 +368,7 @@ module _ {K T : Type 0} (k : Ghosts K T) {V : Type 0} (view : K → V) (m : Mode
   pub own_stopped : (audit0 audit1 : Audit) (left0 left1 : List ℕ) (desk mid desk1 : K) (report0 report1 : Option (List ℕ)) (v0 v1 : SideVerdict) (reach0 reach1 : Option Reach) (taken : Option (List ℕ)) (own : k.Own) (first : Next)
       → (Fails : ℕ → List ℕ → Reply → Type 0) → Tells Fails → keeps audit1 ≡ keeps audit0 → k.IsOwn own line → k.Begins desk own first mid → first ≢ Stop
       → reach1 ≡ reach0 → OwnLeaves Fails audit0 left0 mid first report0 (λ τ new told. IsCutShort v1)
-      → StopsLeave audit0 left0 mid first report0 (TellsOwnStop m reach1 v1 audit1 (view desk1))
+      → StopsLeave audit0 left0 mid first report0 reach1 (TellsOwnStop m reach1 v1 audit1 (view desk1))
       → ((n : ℕ) → v1 ≡ verdict.Stopped n → ReadsStop k view m audit0 left0 mid first report0 audit1 desk1 report1)
       → ((n : ℕ) → v1 ≡ verdict.StoppedInOwn n → ReadsInOwn k audit0 left0 mid first report0 audit1 desk1 report1)
       → End (Some Stopped) (audit_world audit0 left0 desk report0 v0 reach0) (audit_world audit1 left1 desk1 report1 v1 reach1) taken taken
@@ -365,7 +419,7 @@ module _ {K T : Type 0} (k : Ghosts K T) {V : Type 0} (view : K → V) (m : Mode
   pub answered : (audit0 audit1 : Audit) (left0 left1 : List ℕ) (desk mid desk1 : K) (report0 report1 : Option (List ℕ)) (v0 v1 : SideVerdict) (reach0 reach1 : Option Reach) (taken : Option (List ℕ)) (own : k.Own) (first : Next)
       → (Fails : ℕ → List ℕ → Reply → Type 0) → Tells Fails → keeps audit1 ≡ keeps audit0 → k.IsOwn own line → k.Begins desk own first mid → first ≢ Stop
       → reach1 ≡ reach0 → OwnLeaves Fails audit0 left0 mid first report0 (λ τ new told. IsMet view τ audit1 left1 desk1 new × (report1 ≡ Some told))
-      → StopsLeave audit0 left0 mid first report0 (λ L kept. ⊥)
+      → StopsLeave audit0 left0 mid first report0 None (λ L kept. ⊥)
       → AtEachSeen audit0 (λ τ H. AskedSo k τ (world (place H left0) mid) audit1 left1 desk1 first Say)
       → Consumes report0 report1 (flat_map ended (k.texts desk1)) → AllByRecursion IsText (k.texts desk1) → End None (audit_world audit0 left0 desk report0 v0 reach0) (audit_world audit1 left1 desk1 report1 v1 reach1) taken taken
   answered audit0 audit1 left0 left1 desk mid desk1 report0 report1 v0 v1 reach0 reach1 taken own first Fails tells kept is begins goes reach leaves stops asked read each = LineEnd.did (record {
@@ -441,7 +495,7 @@ module _ {K T : Type 0} (k : Ghosts K T) {V : Type 0} (view : K → V) (m : Mode
           event = λ bytes L kept stop report_is.
               let w = stopped_event τ (world (place H left0) (view desk)) bytes L kept e is stop in
               unstopped bytes report_is τ H texts history sees L w.0 w.1;
-          own = λ bytes L kept stop report_is. passed_not_own τ (world (place H left0) (view desk)) bytes L kept (modelled.passes desk line passes) stop;
+          own = λ bytes L kept stop report_is. passed_not_own τ (world (place H left0) (view desk)) bytes L kept (modelled.passes desk line passes) stop.0;
         },
         λ mid rest b may.
             let w = takes τ H texts history sees in

@@ -1,4 +1,4 @@
--- The checker of manifests has its model, whose moves are determined; and the answer to a check tells of each scan whether the verifier failed in it.
+-- The checker of manifests has its model, whose moves are determined and which asks for scans; and the answer to a check tells of each scan whether the verifier failed in it.
 use Rattle.std.proofs.Common.{◌≡◌, inl, inr, ℕ, ◌+◌, ◌-◌, ◌<◌, ◌≤◌, ◌^◌, List, [], ◌∷◌, ◌++◌, length, get_or, Option, Some, None, ◌==◌, refl, sym, ap, ◌∙◌, subst, arith, append_assoc, append-nil}
 use Rattle.std.specs.Prelude.{codes, decimal}
 use Rattle.bench_base.specs.declared.{words.Node.Node, words.Node.TheVariants.Verifier, refusals.ScanRefusal.ScanRefusal, events.Event.Event, events.Reply.Reply, questions.Refusal.TheVariants.Verifier as OfVerifier, questions.Report.Report}
@@ -14,7 +14,7 @@ use Rattle.script_text.specs.Texts.{reply_words, text_of, told, told_as, IsWhole
 use Rattle.scan_laws.proofs.Accepting.{accepted_by}
 use Rattle.line_extensions.specs.Trace.{StepRecord}
 use Rattle.line_extensions.specs.Desks.{World, world, Asks, DidOwn}
-use Rattle.line_extensions.specs.declared.{extension.Next.Next, extension.Next.TheVariants.Say}
+use Rattle.line_extensions.specs.declared.{extension.Next.Next, extension.Next.TheVariants.Step, extension.Next.TheVariants.Say}
 use Rattle.line_extensions.proofs.Wanting.{IsSay, step_event, ends_at}
 use Rattle.mail_manifest.specs.Causes.{Finds}
 use Rattle.mail_manifest.specs.CheckerDesk.{checker_desk}
@@ -31,9 +31,10 @@ use Rattle.mail_manifest.proofs.OneMove.{begins_one, goes_one, goes_by}
 use Rattle.mail_manifest.proofs.PieceTexts.{one_piece, one_reply_text}
 use Rattle.trace_bench.specs.Prefixes.{IsFailure}
 use Rattle.trace_runs.specs.Audits.{MayTell}
-use Rattle.trace_extensions.specs.Models.{by_model, IsModelOf, IsDetermined, IsSure, IsToldOf, AreToldOf, TellsFailures}
+use Rattle.trace_extensions.specs.Models.{by_model, IsModelOf, IsDetermined, IsSure, AsksSurely, EndsByFailure, AreFailures, IsToldOf, AreToldOf, TellsFailures}
 use Rattle.trace_extensions.specs.ManifestModel.{ManifestView, view_listing, view_said, manifest_view, manifest_model, ManifestFails, no_piece_front}
 use Rattle.trace_extensions.specs.Places.{Place, MayStep}
+use Rattle.trace_extensions.proofs.Failures.{no_event, same_event, accepted_fine}
 use Rattle.trace_extensions.proofs.Sure.{FailsAt, failure_or_none}
 
 -- == the checker moves as its model does ==
@@ -103,6 +104,63 @@ manifest_determined = record {
   sees = λ v w x turn one other. one ∙ sym other;
 }
 
+-- == what it asks for ==
+
+module _ (v w : ManifestView) (e : Event) where
+  none_said : (answer : Answer) (after : Option Listing) → Answers view_listing view_said answer after (Step e) w → IsSure e
+  none_said answer after says = absurd (no_event e says.ends)
+
+  scan_sure : (m : Listing) (number : ℕ) → Scans view_listing view_said m number (Step e) w → IsSure e
+  scan_sure m number scans = inl (m.opening.first + (number - 1), mark_at m (number - 1), same_event e (scan_of m number) scans.asks)
+
+  cause_sure : (m : Listing) (cause : Option Answer) → ByCause view_listing view_said m cause (Step e) w → IsSure e
+  cause_sure m (Some cause) does = none_said cause (Some m) does
+  cause_sure m None does = scan_sure m 1 does
+
+  on_sure : (m : Listing) (own : ManifestLine) → BeginsOn view_listing view_said m own (Step e) w → IsSure e
+  on_sure m (Open o) begins = none_said _ _ begins
+  on_sure m (Piece mark) begins = either_any (length m.marks == m.opening.count) (λ full says. none_said _ _ says) (λ room says. none_said _ _ says) begins
+  on_sure m Code begins = none_said _ _ begins
+  on_sure m (Check code) begins = cause_sure m begins.cause begins.does
+
+  bare_sure : (own : ManifestLine) → BeginsBare view_listing view_said own (Step e) w → IsSure e
+  bare_sure (Open o) begins = none_said _ _ begins
+  bare_sure (Piece mark) begins = none_said _ _ begins
+  bare_sure Code begins = none_said _ _ begins
+  bare_sure (Check code) begins = none_said _ _ begins
+
+  with_sure : (m : Option Listing) (own : ManifestLine) → BeginsWith view_listing view_said m own (Step e) w → IsSure e
+  with_sure (Some m) own begins = on_sure m own begins
+  with_sure None own begins = bare_sure own begins
+
+  by_sure : (m : Listing) (number : ℕ) (reply : Reply) → GoesBy view_listing view_said m number reply (Step e) w → IsSure e
+  by_sure m number reply (inl did) = either_any (number == length m.marks) (λ last says. none_said (yes_of m) (Some m) says) (λ more on. scan_sure m (number + 1) on) did.1
+  by_sure m number reply (inr other) = none_said (answers.NoPiece number reply) (Some m) other.1
+
+  goes_sure : (s : Answer) (reply : Reply) → GoesOn view_listing view_said s reply v (Step e) w → IsSure e
+  goes_sure (answers.Scanning number) reply goes = by_sure goes.listing number reply goes.goes
+  goes_sure _ reply goes = absurd (no_event e goes.0)
+
+-- it asks for scans alone
+pub manifest_asks : AsksSurely manifest_model
+manifest_asks = record {
+  first = λ v w line e begins. with_sure v w e v.listing begins.0 begins.2;
+  then = λ v w turn e goes. goes_sure v w e v.said turn.reply goes;
+}
+
+-- after a failure it answers
+failed_by : (m : Listing) (number : ℕ) (reply : Reply) (n : Node) (w : ManifestView) (next : Next) → IsFailure reply n → GoesBy view_listing view_said m number reply next w → next ≡ Say
+failed_by m number reply n w next fails (inl did) = absurd (accepted_fine reply did.0 n fails)
+failed_by m number reply n w next fails (inr other) = other.1.ends
+
+failed_ends : (s : Answer) (reply : Reply) (n : Node) (v w : ManifestView) (next : Next) → IsFailure reply n → GoesOn view_listing view_said s reply v next w → next ≡ Say
+failed_ends (answers.Scanning number) reply n v w next fails goes = failed_by goes.listing number reply n w next fails goes.goes
+failed_ends _ reply n v w next fails goes = goes.0
+
+-- a failure ends its line
+pub manifest_ends : EndsByFailure manifest_model
+manifest_ends = λ v w turn next n fails goes. (failed_ends v.said turn.reply n v w next fails goes, tt)
+
 -- == a failure is told by its text ==
 
 -- a reply that is told as another reply, which is no refusal of a scan, is that reply
@@ -124,9 +182,19 @@ manifest_one_failure number line x y one other =
     same_failure a b (inr is) (inl is') same = absurd (two_failures (sym (ap text_of is') ∙ sym same ∙ ap text_of is))
     same_failure a b (inr is) (inr is') same = is ∙ sym is'
 
-no_failure : (x : Reply) (m : Node) → IsAccepted x → IsFailure x m → ⊥
-no_failure x m accepted (inl is) = let was = accepted.4 in cc
-no_failure x m accepted (inr is) = let was = accepted.4 in cc
+-- the line that tells one is not empty
+no_empty : (number : ℕ) (reply : Reply) → [] ≡ no_piece_text number reply → ⊥
+unfolding no_piece_text
+no_empty number reply is = let first : 0 ≡ 109 = ap (λ (l : List ℕ). get_or l 0 0) is in omega (arith, first)
+
+-- what a line tells are failures of the verifier
+pub manifest_failures : AreFailures ManifestFails
+manifest_failures = record {
+  node = Verifier;
+  fails = λ number line reply told. told.1;
+  one_line = λ number line other reply one two. one.0 ∙ sym two.0;
+  none = λ number reply told. no_empty number reply told.0;
+}
 
 -- == what the answer to a check tells ==
 
@@ -163,7 +231,7 @@ module _ (one : (x y : Reply) → IsWholeReply x → IsWholeReply y → text_of 
 
     -- it was accepted, and the check went on
     accepted_told : (line : List ℕ) → IsAccepted d.reply → Tells (number + 1) line → IsToldOf ManifestFails number line d
-    accepted_told line accepted tells = record { sure = sure; told = inr (none_before number line small tells, λ n fails. no_failure d.reply n accepted fails) }
+    accepted_told line accepted tells = record { sure = sure; told = inr (none_before number line small tells, λ n fails. accepted_fine d.reply accepted n fails) }
 
     -- the check ended at it
     ended_told : IsToldOf ManifestFails number (no_piece_text number d.reply) d

@@ -1,5 +1,5 @@
 -- A step that an own line may have been answered with is the one that the auditor took.
-use Rattle.std.proofs.Common.{◌≡◌, ◌≢◌, ◌⊎◌, inl, inr, ℕ, ◌+◌, ℤ, List, [], ◌∷◌, Option, refl, sym, ◌∙◌, ap, subst}
+use Rattle.std.proofs.Common.{arith, ◌≡◌, ◌≢◌, ◌⊎◌, inl, inr, ℕ, ◌+◌, ◌<◌, ℤ, List, [], ◌∷◌, length, Option, refl, sym, ◌∙◌, ap, subst}
 use Rattle.bench_base.specs.declared.{words.Node.Node, words.Node.TheVariants.Host, words.Node.TheVariants.Verifier, events.Event.Event, events.Reply.Reply}
 use Rattle.bench_base.specs.Ledger.{Ledger, day_in}
 use Rattle.bench_base.specs.Replies.{ReplyClass, Did, class_of}
@@ -11,7 +11,7 @@ use Rattle.ledger_moves.specs.Histories.{History, moves}
 use Rattle.script_text.specs.Texts.{text_of}
 use Rattle.line_extensions.specs.Trace.{StepRecord}
 use Rattle.line_extensions.specs.Desks.{World, world, Asked, Asks}
-use Rattle.line_extensions.specs.declared.{extension.Extension.Ghosts, extension.Next.Next, extension.Next.TheVariants.Step, extension.Next.TheVariants.Say, extension.Next.TheVariants.Stop}
+use Rattle.line_extensions.specs.declared.{extension.Extension.Ghosts, extension.Next.Next, extension.Next.TheVariants.Step, extension.Next.TheVariants.Stop}
 use Rattle.trace_bench.specs.Judging.{taken_by}
 use Rattle.trace_bench.specs.Prefixes.{IsDue, IsFailure}
 use Rattle.trace_bench.specs.Seeing.{Audit, Sees}
@@ -25,7 +25,7 @@ use Rattle.trace_extensions.proofs.SameStep.{same_turn, ledgers, lefts}
 use Rattle.trace_extensions.proofs.Sure.{FailsAt, sure_reply}
 
 -- such an event takes nothing of the rates
-sure_taken : (e : Event) → IsSure e → (day : Option ℤ) (x : ReplyClass) (left : List ℕ) → taken_by e day x left ≡ []
+pub sure_taken : (e : Event) → IsSure e → (day : Option ℤ) (x : ReplyClass) (left : List ℕ) → taken_by e day x left ≡ []
 sure_taken e (inl s) day x left = ap (λ (f : Event). taken_by f day x left) s.2
 sure_taken e (inr (inl s)) day x left = ap (λ (f : Event). taken_by f day x left) s.1
 sure_taken e (inr (inr s)) day x left = ap (λ (f : Event). taken_by f day x left) s.1
@@ -91,80 +91,104 @@ module _ {K T : Type 0} (k : Ghosts K T) {V : Type 0} (view : K → V) (m : Mode
       same_event is = cc (is)
 
 module _ {K V : Type 0} (view : K → V) (m : Model V) where
-  -- steps one after the other: from where some were taken, those that are left may be done
-  pub record LeftToAsk (Fails : ℕ → List ℕ → Reply → Type 0) (τ : Tariff) (line : List ℕ) (taken : ℕ) (audit : Audit) (rates : List ℕ) (desk : K) (next : Next) (mid : World Place V) : Type 0 where
-    pub at : World Place V
-    pub met : IsMet view τ audit rates desk at
-    pub steps : List StepRecord
-    pub asks : Asks (by_model m) (MayStep τ) at mid next steps Say
-    pub told : AreToldOf Fails (taken + 1) line steps
+  module _ (Fails : ℕ → List ℕ → Reply → Type 0) (τ : Tariff) (line : List ℕ) where
+    -- steps one after the other: from where some of them were taken, those that are left may be done, and then this is asked for
+    pub record LeftToAsk (count taken : ℕ) (audit : Audit) (rates : List ℕ) (desk : K) (next last : Next) (mid : World Place V) : Type 0 where
+      pub at : World Place V
+      pub met : IsMet view τ audit rates desk at
+      pub steps : List StepRecord
+      pub asks : Asks (by_model m) (MayStep τ) at mid next steps last
+      pub told : AreToldOf Fails (taken + 1) line steps
+      pub many : taken + length steps ≡ count
 
-  pub none_asked : (Fails : ℕ → List ℕ → Reply → Type 0) (τ : Tariff) (H : Ledger) (line rates : List ℕ) (audit : Audit) (desk : K) (first : Next) (mid : World Place V) (steps : List StepRecord)
-      → History τ editions H → Sees audit H → Asks (by_model m) (MayStep τ) (world (place H rates) (view desk)) mid first steps Say → AreToldOf Fails 1 line steps → LeftToAsk Fails τ line 0 audit rates desk first mid
-  none_asked Fails τ H line rates audit desk first mid steps history sees asks told =
-      record { at = world (place H rates) (view desk); met = record { history = history; sees = sees; left = refl; kept = refl }; steps = steps; asks = asks; told = told }
+    pub none_asked : (H : Ledger) (rates : List ℕ) (audit : Audit) (desk : K) (first last : Next) (mid : World Place V) (steps : List StepRecord)
+        → History τ editions H → Sees audit H → Asks (by_model m) (MayStep τ) (world (place H rates) (view desk)) mid first steps last → AreToldOf Fails 1 line steps → LeftToAsk (length steps) 0 audit rates desk first last mid
+    none_asked H rates audit desk first last mid steps history sees asks told =
+        record { at = world (place H rates) (view desk); met = record { history = history; sees = sees; left = refl; kept = refl }; steps = steps; asks = asks; told = told; many = omega arith }
 
-  -- the place where the auditor is
-  met_at : (τ : Tariff) (audit : Audit) (rates : List ℕ) (desk : K) (at : World Place V) → IsMet view τ audit rates desk at → at ≡ world (place at.scene.ledger rates) (view desk)
-  met_at τ audit rates desk at met =
-      ap (λ (r : List ℕ). world (place at.scene.ledger r) at.desk) met.left ∙ ap (λ (v : V). world (place at.scene.ledger rates) v) met.kept
+    -- the place where the auditor is
+    met_at : (audit : Audit) (rates : List ℕ) (desk : K) (at : World Place V) → IsMet view τ audit rates desk at → at ≡ world (place at.scene.ledger rates) (view desk)
+    met_at audit rates desk at met =
+        ap (λ (r : List ℕ). world (place at.scene.ledger r) at.desk) met.left ∙ ap (λ (v : V). world (place at.scene.ledger rates) v) met.kept
 
-  -- the next step that is left, and those after it
-  pub record NextAsked (Fails : ℕ → List ℕ → Reply → Type 0) (τ : Tariff) (line : List ℕ) (taken : ℕ) (audit : Audit) (rates : List ℕ) (desk : K) (e : Event) (mid : World Place V) : Type 0 where
-    pub ledger : Ledger
-    pub history : History τ editions ledger
-    pub sees : Sees audit ledger
-    pub behind : World Place V
-    pub more : Next
-    pub d : StepRecord
-    pub asked : Asked (by_model m) (MayStep τ) (world (place ledger rates) (view desk)) behind (Step e) d more
-    pub told : IsToldOf Fails (taken + 1) line d
-    pub steps : List StepRecord
-    pub asks : Asks (by_model m) (MayStep τ) behind mid more steps Say
-    pub are : AreToldOf Fails (taken + 1 + 1) line steps
+    -- the next step that is left, and those after it
+    pub record NextAsked (count taken : ℕ) (audit : Audit) (rates : List ℕ) (desk : K) (e : Event) (last : Next) (mid : World Place V) : Type 0 where
+      pub ledger : Ledger
+      pub history : History τ editions ledger
+      pub sees : Sees audit ledger
+      pub behind : World Place V
+      pub more : Next
+      pub d : StepRecord
+      pub asked : Asked (by_model m) (MayStep τ) (world (place ledger rates) (view desk)) behind (Step e) d more
+      pub told : IsToldOf Fails (taken + 1) line d
+      pub steps : List StepRecord
+      pub asks : Asks (by_model m) (MayStep τ) behind mid more steps last
+      pub are : AreToldOf Fails (taken + 1 + 1) line steps
+      pub many : taken + 1 + length steps ≡ count
 
-  pub next_asked : (Fails : ℕ → List ℕ → Reply → Type 0) (τ : Tariff) (line : List ℕ) (taken : ℕ) (audit : Audit) (rates : List ℕ) (desk : K) (next : Next) (e : Event) (mid : World Place V)
-      → next ≡ Step e → LeftToAsk Fails τ line taken audit rates desk next mid → NextAsked Fails τ line taken audit rates desk e mid
-  next_asked Fails τ line taken audit rates desk next e mid is left = by left.steps left.asks left.told
-    where
-      by : (steps : List StepRecord) → Asks (by_model m) (MayStep τ) left.at mid next steps Say → AreToldOf Fails (taken + 1) line steps → NextAsked Fails τ line taken audit rates desk e mid
-      by [] asks told = absurd (cc (asks.0, is))
-      by (d ∷ steps) asks told = record {
-        ledger = left.at.scene.ledger;
-        history = left.met.history;
-        sees = left.met.sees;
-        behind = asks.0;
-        more = asks.1;
-        d = d;
-        asked = subst (λ (x : World Place V). Asked (by_model m) (MayStep τ) x asks.0 (Step e) d asks.1) (met_at τ audit rates desk left.at left.met)
-            (subst (λ (n : Next). Asked (by_model m) (MayStep τ) left.at asks.0 n d asks.1) is asks.2);
-        told = told.0;
-        steps = steps;
-        asks = asks.3;
-        are = told.1;
-      }
+    -- a step that is asked for is left, unless all were taken
+    pub next_asked : (count taken : ℕ) (audit : Audit) (rates : List ℕ) (desk : K) (next last : Next) (e : Event) (mid : World Place V)
+        → next ≡ Step e → (last ≡ Step e → taken ≡ count → ⊥) → LeftToAsk count taken audit rates desk next last mid → NextAsked count taken audit rates desk e last mid
+    next_asked count taken audit rates desk next last e mid is some left = by left.steps left.asks left.told left.many
+      where
+        by : (steps : List StepRecord) → Asks (by_model m) (MayStep τ) left.at mid next steps last → AreToldOf Fails (taken + 1) line steps → taken + length steps ≡ count → NextAsked count taken audit rates desk e last mid
+        by [] asks told many = absurd (some (asks.0 ∙ is) (omega (arith, many)))
+        by (d ∷ steps) asks told many = record {
+          ledger = left.at.scene.ledger;
+          history = left.met.history;
+          sees = left.met.sees;
+          behind = asks.0;
+          more = asks.1;
+          d = d;
+          asked = subst (λ (x : World Place V). Asked (by_model m) (MayStep τ) x asks.0 (Step e) d asks.1) (met_at audit rates desk left.at left.met)
+              (subst (λ (n : Next). Asked (by_model m) (MayStep τ) left.at asks.0 n d asks.1) is asks.2);
+          told = told.0;
+          steps = steps;
+          asks = asks.3;
+          are = told.1;
+          many = omega (arith, many);
+        }
 
-  -- the same, where what is asked for is no stop
-  pub left_next : (Fails : ℕ → List ℕ → Reply → Type 0) (τ : Tariff) (line : List ℕ) (taken : ℕ) (audit : Audit) (rates : List ℕ) (desk : K) (next : Next) (e : Event) (mid : World Place V)
-      → next ≡ Step e → (next ≢ Stop → LeftToAsk Fails τ line taken audit rates desk next mid) → NextAsked Fails τ line taken audit rates desk e mid
-  left_next Fails τ line taken audit rates desk next e mid is left = next_asked Fails τ line taken audit rates desk next e mid is (left (λ stop. absurd (cc (is, stop))))
+    -- the same, where what is asked for is no stop
+    pub left_next : (count taken : ℕ) (audit : Audit) (rates : List ℕ) (desk : K) (next last : Next) (e : Event) (mid : World Place V)
+        → next ≡ Step e → (last ≡ Step e → taken ≡ count → ⊥) → (next ≢ Stop → LeftToAsk count taken audit rates desk next last mid) → NextAsked count taken audit rates desk e last mid
+    left_next count taken audit rates desk next last e mid is some left = next_asked count taken audit rates desk next last e mid is some (left (λ stop. absurd (cc (is, stop))))
 
-  -- what is left behind the next step
-  pub after_next : (Fails : ℕ → List ℕ → Reply → Type 0) (τ : Tariff) (line : List ℕ) (taken : ℕ) (audit audit1 : Audit) (rates rates1 : List ℕ) (desk desk1 : K) (e : Event) (next : Next) (mid : World Place V)
-      → (n : NextAsked Fails τ line taken audit rates desk e mid) → (n.more ≡ next) × IsMet view τ audit1 rates1 desk1 n.behind → LeftToAsk Fails τ line (taken + 1) audit1 rates1 desk1 next mid
-  after_next Fails τ line taken audit audit1 rates rates1 desk desk1 e next mid n met = record {
-    at = n.behind;
-    met = met.1;
-    steps = n.steps;
-    asks = subst (λ (x : Next). Asks (by_model m) (MayStep τ) n.behind mid x n.steps Say) met.0 n.asks;
-    told = n.are;
-  }
+    -- what is left behind the next step
+    pub after_next : (count taken : ℕ) (audit audit1 : Audit) (rates rates1 : List ℕ) (desk desk1 : K) (e : Event) (next last : Next) (mid : World Place V)
+        → (n : NextAsked count taken audit rates desk e last mid) → (n.more ≡ next) × IsMet view τ audit1 rates1 desk1 n.behind → LeftToAsk count (taken + 1) audit1 rates1 desk1 next last mid
+    after_next count taken audit audit1 rates rates1 desk desk1 e next last mid n met = record {
+      at = n.behind;
+      met = met.1;
+      steps = n.steps;
+      asks = subst (λ (x : Next). Asks (by_model m) (MayStep τ) n.behind mid x n.steps last) met.0 n.asks;
+      told = n.are;
+      many = n.many;
+    }
 
-  -- nothing is left to ask for
-  pub all_asked : (Fails : ℕ → List ℕ → Reply → Type 0) (τ : Tariff) (line : List ℕ) (taken : ℕ) (audit : Audit) (rates : List ℕ) (desk : K) (next : Next) (mid : World Place V)
-      → ((e : Event) → next ≡ Step e → ⊥) → LeftToAsk Fails τ line taken audit rates desk next mid → IsMet view τ audit rates desk mid
-  all_asked Fails τ line taken audit rates desk next mid none left = by left.steps left.asks
-    where
-      by : (steps : List StepRecord) → Asks (by_model m) (MayStep τ) left.at mid next steps Say → IsMet view τ audit rates desk mid
-      by [] asks = subst (λ (x : World Place V). IsMet view τ audit rates desk x) (sym asks.1) left.met
-      by (d ∷ steps) asks = absurd (none d.event asks.2.asks)
+    -- nothing is left to ask for
+    pub all_asked : (count taken : ℕ) (audit : Audit) (rates : List ℕ) (desk : K) (next last : Next) (mid : World Place V)
+        → ((e : Event) → next ≡ Step e → ⊥) → LeftToAsk count taken audit rates desk next last mid → IsMet view τ audit rates desk mid
+    all_asked count taken audit rates desk next last mid none left = by left.steps left.asks
+      where
+        by : (steps : List StepRecord) → Asks (by_model m) (MayStep τ) left.at mid next steps last → IsMet view τ audit rates desk mid
+        by [] asks = subst (λ (x : World Place V). IsMet view τ audit rates desk x) (sym asks.1) left.met
+        by (d ∷ steps) asks = absurd (none d.event asks.2.asks)
+
+    -- all were taken
+    pub all_taken : (count taken : ℕ) (audit : Audit) (rates : List ℕ) (desk : K) (next last : Next) (mid : World Place V)
+        → taken ≡ count → LeftToAsk count taken audit rates desk next last mid → (last ≡ next) × IsMet view τ audit rates desk mid
+    all_taken count taken audit rates desk next last mid all left = by left.steps left.asks left.many
+      where
+        by : (steps : List StepRecord) → Asks (by_model m) (MayStep τ) left.at mid next steps last → taken + length steps ≡ count → (last ≡ next) × IsMet view τ audit rates desk mid
+        by [] asks many = (asks.0, subst (λ (x : World Place V). IsMet view τ audit rates desk x) (sym asks.1) left.met)
+        by (d ∷ steps) asks many = absurd (omega (arith, many, all))
+
+    -- some are left, so a step is asked for
+    pub still_asks : (count taken : ℕ) (audit : Audit) (rates : List ℕ) (desk : K) (next last : Next) (mid : World Place V)
+        → taken < count → LeftToAsk count taken audit rates desk next last mid → (e : Event) × (next ≡ Step e)
+    still_asks count taken audit rates desk next last mid fewer left = by left.steps left.asks left.many
+      where
+        by : (steps : List StepRecord) → Asks (by_model m) (MayStep τ) left.at mid next steps last → taken + length steps ≡ count → (e : Event) × (next ≡ Step e)
+        by [] asks many = absurd (omega (arith, many, fewer))
+        by (d ∷ steps) asks many = (d.event, asks.2.asks)

@@ -64,12 +64,12 @@ module _ {V : Type 0} (m : Model V) where
 
 module _ {V : Type 0} (m : Model V) (det : IsDetermined m) where
   -- an own line was begun in one way
-  record BegunSo (τ : Tariff) (scene : Place) (desk : V) (first : Next) (behind : World Place V) (steps : List StepRecord) (next begun : Next) (held : V) : Type 0 where
+  pub record BegunSo (τ : Tariff) (scene : Place) (desk : V) (first : Next) (behind : World Place V) (steps : List StepRecord) (next begun : Next) (held : V) : Type 0 where
     pub first_is : begun ≡ first
     pub desk_is : held ≡ desk
     pub asks : Asks (by_model m) (MayStep τ) (world scene desk) behind first steps next
 
-  begun_so : (τ : Tariff) (scene : Place) (v desk : V) (line : List ℕ) (first : Next) (behind : World Place V) (steps : List StepRecord) (next : Next) → m.Begins v line first desk
+  pub begun_so : (τ : Tariff) (scene : Place) (v desk : V) (line : List ℕ) (first : Next) (behind : World Place V) (steps : List StepRecord) (next : Next) → m.Begins v line first desk
       → (did : DidOwn (by_model m) (MayStep τ) (world scene v) behind line steps next) → BegunSo τ scene desk first behind steps next did.first did.desk
   begun_so τ scene v desk line first behind steps next begins did =
       let same = det.begins v did.desk desk line did.first first did.begins begins in
@@ -125,8 +125,8 @@ module _ {V : Type 0} (m : Model V) (det : IsDetermined m) where
     module _ {K : Type 0} (view : K → V) (number : ℕ) (reach : Option Reach) (verdict : SideVerdict) (audit : Audit) where
       -- it is called stopped, and what the stop leaves is seen and kept
       pub told_so : (desk : V) (ledger L : Ledger) (kept : V) → IsCalledStopped number verdict → Sees audit ledger → L ≡ ledger → m.Alike desk kept → TellsOwnStop m reach verdict audit desk L kept
-      told_so desk ledger L kept (inl is) sees same like = inl (number, is, between audit L (subst (λ (X : Ledger). Sees audit X) (sym same) sees), like)
-      told_so desk ledger L kept (inr cut) sees same like = inr (λ none. inl cut)
+      told_so desk ledger L kept (inl is) sees same like = inl ((number, inl is), between audit L (subst (λ (X : Ledger). Sees audit X) (sym same) sees), like)
+      told_so desk ledger L kept (inr cut) sees same like = inr (inl (inl cut))
 
       -- the first line was read, and the steps were taken
       pub first_told : (τ : Tariff) (scene : Place) (desk : V) (first : Next) (line told rates : List ℕ) (L : Ledger) (kept : V) (desk1 : K) → (r : FirstRead τ scene desk first line told L kept) → IsMet view τ audit rates desk1 r.behind
@@ -143,15 +143,15 @@ module _ {V : Type 0} (m : Model V) (det : IsDetermined m) where
             (idle none (world scene v) (world scene desk) line [] first (record { first = first; desk = desk; begins = begins; asks = (refl, refl) }) refl refl).alike
 
         -- nothing that it would have done changes anything
-        pub idle_stop : prefix ≡ [] → Sees audit scene.ledger → verdict ≡ Stopped number → EachOwnLeft m τ scene desk first prefix (TellsOwnStop m reach verdict audit desk)
-        idle_stop none sees is v line L kept begins goes (not_begun here x) =
+        pub idle_stop : prefix ≡ [] → Sees audit scene.ledger → verdict ≡ Stopped number → EachOwnLeft m τ scene desk first prefix reach (TellsOwnStop m reach verdict audit desk)
+        idle_stop none sees is v line L kept begins goes (not_begun here x, agrees) =
             told_so desk scene.ledger L kept (inl is) sees x.ledger (subst (λ (w : V). m.Alike desk w) (sym x.stays) (first_alike none v line begins))
-        idle_stop none sees is v line L kept begins goes (all_of_it here x) =
+        idle_stop none sees is v line L kept begins goes (all_of_it here x, agrees) =
             let so = begun_so τ scene v desk line first x.behind x.steps Say begins x.did in
             let still = idle none (world scene v) x.behind line x.steps Say x.did so.first_is so.desk_is in
             told_so desk scene.ledger L kept (inl is) sees (x.ledger ∙ still.ledger)
             (subst (λ (w : V). m.Alike desk w) (sym x.keeps) (alike.joined desk x.behind.desk v (first_alike none v line begins) still.alike))
-        idle_stop none sees is v line L kept begins goes (part_of_it here x) =
+        idle_stop none sees is v line L kept begins goes (part_of_it here x, agrees) =
             let so = begun_so τ scene v desk line first x.behind x.steps (Step x.event) begins x.did in
             let still = idle none (world scene v) x.behind line x.steps (Step x.event) x.did so.first_is so.desk_is in
             let asks = still.asks x.event refl in
@@ -167,22 +167,22 @@ module _ {V : Type 0} (m : Model V) (det : IsDetermined m) where
           met_told : (behind : World Place V) (L : Ledger) (kept : V) → ((verdict ≡ Stopped number) × IsMet view τ audit rates desk1 behind) ⊎ IsCutShort verdict → L ≡ behind.scene.ledger
               → (behind.desk ≡ view desk1 → m.Alike (view desk1) kept) → TellsOwnStop m reach verdict audit (view desk1) L kept
           met_told behind L kept (inl met) same like = told_so (view desk1) behind.scene.ledger L kept (inl met.0) met.1.sees same (like met.1.kept)
-          met_told behind L kept (inr cut) same like = inr (λ none. inl cut)
+          met_told behind L kept (inr cut) same like = inr (inl (inl cut))
 
-          pub known_stop : EachOwnLeft m τ scene desk first prefix (TellsOwnStop m reach verdict audit (view desk1))
-          known_stop v line L kept begins goes (not_begun here x) =
+          pub known_stop : EachOwnLeft m τ scene desk first prefix reach (TellsOwnStop m reach verdict audit (view desk1))
+          known_stop v line L kept begins goes (not_begun here x, agrees) =
               let say : first ≡ Say = say_first first (still x.silent) goes in
               let t = telling τ (world scene v) (world scene desk) line [] (record { first = first; desk = desk; begins = begins; asks = (sym say, refl) }) in
               met_told (world scene desk) L kept
               (done (world scene desk) t.first t.more [] (sym say, refl) tt t.are (t.first, ap (λ (l : List ℕ). l ++ t.first) (sym x.silent))) x.ledger
               (λ same. subst (λ (w : V). m.Alike w kept) same (subst (λ (w : V). m.Alike desk w) (sym x.stays) (first_alike x.silent v line begins)))
-          known_stop v line L kept begins goes (all_of_it here x) =
+          known_stop v line L kept begins goes (all_of_it here x, agrees) =
               let so = begun_so τ scene v desk line first x.behind x.steps Say begins x.did in
               let t = telling τ (world scene v) x.behind line x.steps x.did in
               let p = cut_first t.first t.more prefix one (subst (λ (l : List (List ℕ)). IsCutOf prefix l) t.are x.cut) in
               let told = settled (world scene v) x.behind line t.first t.more x.steps x.did so.first_is so.desk_is t.are p in
               met_told x.behind L kept (done x.behind t.first t.more x.steps so.asks told t.are p) x.ledger
               (λ same. subst (λ (w : V). m.Alike (view desk1) w) (sym same ∙ sym x.keeps) (alike.same (view desk1)))
-          known_stop v line L kept begins goes (part_of_it here x) =
+          known_stop v line L kept begins goes (part_of_it here x, agrees) =
               let so = begun_so τ scene v desk line first x.behind x.steps (Step x.event) begins x.did in
               absurd (still x.silent (stepped m τ (world scene desk) x.behind first x.steps x.event so.asks))

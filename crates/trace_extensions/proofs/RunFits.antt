@@ -42,7 +42,7 @@ use Rattle.trace_extensions.proofs.ByModel.{all_texts_of, both_of, did_by_model,
 use Rattle.trace_extensions.proofs.Covered.{Covers, same_front, longer_front, one_end, reaches, covers, last_follows}
 use Rattle.trace_extensions.proofs.Ran.{IsWhole, last_goes, both_go, whole_end}
 use Rattle.trace_extensions.proofs.Translated.{NoneEnds, going, took_split}
-use Rattle.trace_extensions.proofs.Walked.{IsSound, walk, walk_past, EndedAt}
+use Rattle.trace_extensions.proofs.Walked.{IsSound, early_open, walk, walk_past, EndedAt}
 
 -- a run that came to the end of its script ends by it
 pub by_script : (s : Status) → IsWhole s → IsByScript (Run s)
@@ -301,8 +301,23 @@ module _ {K T : Type 0} (k : Ghosts K T) {V : Type 0} (view : K → V) (m : Mode
         with_last : DidAudit k view m w0 r.did.behind (r.trace ++ last ∷ [])
         with_last = subst (λ (d : List (AuditStep k.Own K)). DidAudit k view m w0 r.did.behind (r.trace ++ d)) r.ends.0.only r.did.did
 
+        -- the verdict there leaves it open
+        abbrev OpenAt : AuditStep k.Own K → Type 0
+        OpenAt (Passed line) = ⊥
+        OpenAt (Heard line e answer) = ⊥
+        OpenAt (audit.Own line own texts) = ⊥
+        OpenAt (Begun line told at) = IsOpen at.reach at.verdict
+        OpenAt (Ended line at) = IsOpen at.reach at.verdict
+
+        open_early : (d : AuditStep k.Own K) → EndedAt k view m τ (IsMetIn view τ r.did.behind) d → OpenAt d
+        open_early (Passed line) early = early
+        open_early (Heard line e answer) early = early
+        open_early (audit.Own line own texts) early = early
+        open_early (Begun line told at) early = early_open at.reach at.verdict early
+        open_early (Ended line at) early = early_open at.reach at.verdict early
+
         -- what it left there
-        left_there : (d : AuditStep k.Own K) → AuditEnds d → DidAudit k view m w0 r.did.behind (r.trace ++ d ∷ []) → EndedAt k view m τ (IsMetIn view τ r.did.behind) d → IsOpen w1.reach w1.verdict
+        left_there : (d : AuditStep k.Own K) → AuditEnds d → DidAudit k view m w0 r.did.behind (r.trace ++ d ∷ []) → OpenAt d → IsOpen w1.reach w1.verdict
         left_there (Passed line) ends did is_open = absurd ends
         left_there (Heard line e answer) ends did is_open = absurd ends
         left_there (audit.Own line own texts) ends did is_open = absurd ends
@@ -314,12 +329,12 @@ module _ {K T : Type 0} (k : Ghosts K T) {V : Type 0} (view : K → V) (m : Mode
             subst (λ (w : AuditWorld K). IsOpen w.reach w.verdict) (sym (r.did.leaves ∙ split.2)) is_open
 
         pub past : (more : List (List ℕ)) → map audit_line r.trace ++ (audit_line last ∷ more) ≡ map side_line ys → IsOpen w1.reach w1.verdict
-        past more lines = left_there last r.ends.1 with_last
+        past more lines = left_there last r.ends.1 with_last (open_early last
             (walk_past k view m τ (IsMetIn view τ r.did.behind) r.trace last more ys (world (place H w0.rates) (view w0.desk)) f.run.did.behind w0.report [] lines (going k r.trace r.go_on) r.ends.1 sound does
-            (same_report ∙ ap (λ (l : List ℕ). Some l) report_is) (with_last.only τ H texts history sees))
+            (same_report ∙ ap (λ (l : List ℕ). Some l) report_is) (with_last.only τ H texts history sees)))
 
         -- the verdict leaves it is_open, or the line is known
-        open_or_known : (d : AuditStep k.Own K) → AuditEnds d → AuditIsOf k.IsOwn d → EndedAt k view m τ (IsMetIn view τ r.did.behind) d ⊎ IsKnown k.IsOwn (audit_line d)
+        open_or_known : (d : AuditStep k.Own K) → AuditEnds d → AuditIsOf k.IsOwn d → OpenAt d ⊎ IsKnown k.IsOwn (audit_line d)
         open_or_known (Passed line) ends is = absurd ends
         open_or_known (Heard line e answer) ends is = absurd ends
         open_or_known (audit.Own line own texts) ends is = absurd ends

@@ -1,7 +1,7 @@
 -- The desk of statements has its model. Each move of the model is determined. An answer has a first text, and no node failed in the step before it.
 use Rattle.std.proofs.Common.{◌≡◌, inl, inr, ℕ, Bool, true, false, List, [], ◌∷◌, Option, Some, None, get_or, refl, sym, ◌∙◌, ap, subst, arith}
 use Rattle.std.specs.Prelude.{codes, decimal}
-use Rattle.bench_base.specs.declared.{events.Event.Event, events.Reply.Reply}
+use Rattle.bench_base.specs.declared.{words.Node.TheVariants.Centre, events.Event.Event, events.Reply.Reply}
 use Rattle.bench_base.specs.declared.events.Event.TheVariants as ev
 use Rattle.bench_base.specs.declared.events.Reply.TheVariants as r
 use Rattle.node_turns.specs.declared.turn.Turn.{Turn}
@@ -18,10 +18,11 @@ use Rattle.centre_statement.specs.StatementsDesk.{statements_desk}
 use Rattle.centre_statement.specs.Texts.{said_texts, closed_texts}
 use Rattle.centre_statement.specs.declared.{lines.OwnLine.OwnLine, lines.OwnLine.TheVariants.Open, lines.OwnLine.TheVariants.Close, answer.Answer.Answer}
 use Rattle.centre_statement.specs.declared.answer.Answer.TheVariants as answers
-use Rattle.trace_extensions.specs.Models.{by_model, IsModelOf, IsDetermined, IsIdle, IsSure, IsToldOf, AreToldOf, TellsFailures}
+use Rattle.trace_extensions.specs.Models.{by_model, IsModelOf, IsDetermined, IsIdle, IsSure, AsksSurely, EndsByFailure, AreFailures, IsToldOf, AreToldOf, TellsFailures}
 use Rattle.trace_extensions.specs.Places.{Place, MayStep}
 use Rattle.trace_extensions.specs.StatementModel.{statement_model, Fails}
 use Rattle.line_extensions.proofs.Wanting.{ends_at}
+use Rattle.trace_extensions.proofs.Failures.{no_event, same_event}
 use Rattle.trace_extensions.proofs.Idle.{balance_keeps}
 use Rattle.trace_extensions.proofs.Sure.{FailsAt, failure_or_none}
 
@@ -84,7 +85,39 @@ statement_determined = record {
   sees = λ v w x turn one other. one ∙ sym other;
 }
 
+-- == what it asks for ==
+
+balance_sure : (u : ℕ) (e : Event) → Step e ≡ Step (ev.Balance u) → IsSure e
+balance_sure u e is = inr (inr (u, same_event e (ev.Balance u) is))
+
+close_sure : (now : Option Opened) (v w : View) (e : Event) → BeginsClose now v (Step e) w → IsSure e
+close_sure None v w e begins = absurd (no_event e begins.0)
+close_sure (Some s) v w e begins = balance_sure s.customer e begins.0
+
+begins_sure : (own : OwnLine) (v w : View) (e : Event) → Begins v own (Step e) w → IsSure e
+begins_sure (Open u) v w e begins = balance_sure u e begins.0
+begins_sure Close v w e begins = close_sure v.current v w e begins
+
+-- it asks for balances alone
+pub statement_asks : AsksSurely statement_model
+statement_asks = record {
+  first = λ v w line e begins. begins_sure begins.0 v w e begins.2;
+  then = λ v w turn e goes. absurd (no_event e goes.0);
+}
+
+-- each reply ends its line
+pub statement_ends : EndsByFailure statement_model
+statement_ends = λ v w turn next n fails goes. (goes.0, tt)
+
 -- no line tells a failure
+pub statement_failures : AreFailures Fails
+statement_failures = record {
+  node = Centre;
+  fails = λ number line reply told. absurd told;
+  one_line = λ number line other reply one two. absurd one;
+  none = λ number reply told. told;
+}
+
 pub statement_one_failure : (number : ℕ) (line : List ℕ) (x y : Reply) → Fails number line x → Fails number line y → x ≡ y
 statement_one_failure number line x y one other = absurd one
 

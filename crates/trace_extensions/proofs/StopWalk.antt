@@ -7,7 +7,7 @@ use Rattle.line_extensions.specs.Desks.{World, side_grammar, Does}
 use Rattle.line_extensions.specs.SideTrace.{SideStep, side_line}
 use Rattle.line_extensions.specs.declared.extension.Extension.{Ghosts}
 use Rattle.trace_extensions.specs.Exact.{NoStop, TellsStops, EachStop, Only}
-use Rattle.trace_extensions.specs.Fits.{IsOpen}
+use Rattle.trace_extensions.specs.Fits.{EndsEarly}
 use Rattle.trace_extensions.specs.Models.{Model, by_model}
 use Rattle.trace_extensions.specs.Places.{Place, MayStep}
 use Rattle.trace_extensions.specs.Steps.{AuditWorld, AuditStep, Passed, Heard, Own, Begun, Ended, audit_line, AuditEnds}
@@ -20,7 +20,7 @@ pub record StopWay {K V : Type 0} (view : K → V) (m : Model V) (τ : Tariff) :
   pub Told : AuditWorld K → Ledger → V → Type 0
   pub none : (at : World Place V) (line : List ℕ) (report : Option (List ℕ)) → NoStop m τ at line report → EachStop AtLine at line report (λ L kept. ⊥)
   pub some : (at : World Place V) (line : List ℕ) (report : Option (List ℕ)) (left : AuditWorld K) → TellsStops m τ at line report view left → EachStop AtLine at line report (Told left)
-  pub left_open : (left : AuditWorld K) (L : Ledger) (kept : V) → IsOpen left.reach left.verdict → Told left L kept
+  pub early : (left : AuditWorld K) (L : Ledger) (kept : V) → EndsEarly left.reach left.verdict → Told left L kept
   pub fine : (at : World Place V) (line told : List ℕ) (L : Ledger) (kept : V) → AtLine at line told L kept → (side_grammar (by_model m)).IsBad line → ⊥
 
 module _ {K T : Type 0} (k : Ghosts K T) {V : Type 0} (view : K → V) (m : Model V) (τ : Tariff) (way : StopWay view m τ) (P : World Place V → Option (List ℕ) → Type 0)

@@ -26,20 +26,20 @@ use Rattle.trace_runs.specs.Between.{SeesBetween}
 use Rattle.trace_runs.specs.Fitting.{AtSeen}
 use Rattle.trace_extensions.specs.AuditLaws.{audit_fits}
 use Rattle.trace_extensions.specs.Exact.{Only, IsMetIn}
-use Rattle.trace_extensions.specs.Fits.{AtKnown, IsCutShort, IsUnbegun, IsOpen, HasTexts}
-use Rattle.trace_extensions.specs.FitsStopped.{EventStopped, OwnStopped, not_begun, all_of_it, part_of_it, FitsStopped, TellsStop, TellsOwnStop, StoppedIfFits, StoppedInOwnIfFits}
+use Rattle.trace_extensions.specs.Fits.{AtKnown, IsCutShort, HasTexts}
+use Rattle.trace_extensions.specs.FitsStopped.{AgreedStop, EventStopped, OwnStopped, not_begun, all_of_it, part_of_it, FitsStopped, TellsStop, TellsOwnStop, StoppedIfFits, StoppedInOwnIfFits}
 use Rattle.trace_extensions.specs.Models.{Model, by_model, IsModelOf}
 use Rattle.trace_extensions.specs.Places.{Place, place, MayStep}
 use Rattle.trace_extensions.specs.Steps.{AuditWorld, AuditStep, Passed, Heard, Begun, Ended, audit_line, audit_lines, AuditEnds}
 use Rattle.trace_extensions.specs.Steps as audit
 use Rattle.trace_extensions.specs.Worlds.{AuditLeaves, DidAudit}
-use Rattle.trace_extensions.specs.declared.{papers.Reach.Reach, papers.SideVerdict.SideVerdict, papers.SideVerdict.TheVariants.InDoubt}
+use Rattle.trace_extensions.specs.declared.{papers.Reach.Reach, papers.SideVerdict.SideVerdict}
 use Rattle.trace_extensions.proofs.Covered.{same_front, longer_front, reaches, covers, last_follows}
 use Rattle.trace_extensions.proofs.Ran.{IsWhole, last_goes, both_go}
 use Rattle.trace_extensions.proofs.RunFits.{by_script, lines_by, is_done, gM, fits_model, ends_as, goes_whole, Beginning, if_known, reach_kept}
 use Rattle.trace_extensions.proofs.StopWalk.{StopWay, walk_none, walk_stop, ToldAt}
 use Rattle.trace_extensions.proofs.Translated.{NoneEnds, going, took_split}
-use Rattle.trace_extensions.proofs.Walked.{IsSound, texts_in, walk_past, EndedAt}
+use Rattle.trace_extensions.proofs.Walked.{IsSound, early_open, texts_in, walk_past, EndedAt}
 
 -- what follows two beginnings of one list with the same length is the same
 same_last : (xs ys a b : List (List ℕ)) (x y : List ℕ) → xs ++ (x ∷ a) ≡ ys ++ (y ∷ b) → length xs ≡ length ys → x ≡ y
@@ -47,16 +47,6 @@ same_last [] [] a b x y is long = cc is
 same_last [] (z ∷ ys) a b x y is long = absurd (omega (arith, long))
 same_last (z ∷ xs) [] a b x y is long = absurd (omega (arith, long))
 same_last (z ∷ xs) (u ∷ ys) a b x y is long = same_last xs ys a b x y (cc is) (omega (arith, long))
-
--- no reach is one that says that nothing was begun
-pub none_unbegun : (reach : Option Reach) (n : ℕ) → reach ≡ None → IsUnbegun reach n → ⊥
-none_unbegun None n is unbegun = unbegun
-none_unbegun (Some reach) n is unbegun = absurd (cc is)
-
--- what is open is undecided
-pub open_undecided : (reach : Option Reach) (verdict : SideVerdict) → IsOpen reach verdict → reach ≡ None → IsCutShort verdict ⊎ ((n : ℕ) × (verdict ≡ InDoubt n))
-open_undecided reach verdict (inl cut) none = inl cut
-open_undecided reach verdict (inr by) none = absurd (none_unbegun reach by.0 none by.1)
 
 module _ {K T : Type 0} (k : Ghosts K T) {V : Type 0} (view : K → V) (m : Model V) where
   -- what is so of some steps and those after them is so of the first ones
@@ -162,8 +152,8 @@ module _ {K T : Type 0} (k : Ghosts K T) {V : Type 0} (view : K → V) (m : Mode
       open_told (Passed line) is = is
       open_told (Heard line e answer) is = is
       open_told (audit.Own line own texts) is = is
-      open_told (Begun line begun at) is = way.left_open at f.ledger f.kept is
-      open_told (Ended line at) is = way.left_open at f.ledger f.kept is
+      open_told (Begun line begun at) is = way.early at f.ledger f.kept is
+      open_told (Ended line at) is = way.early at f.ledger f.kept is
 
       -- before the line of the stop
       before : length r.trace < length f.trace → way.Told w1 f.ledger f.kept
@@ -208,7 +198,7 @@ module _ {K T : Type 0} (k : Ghosts K T) {V : Type 0} (view : K → V) (m : Mode
     Told = λ left L kept. TellsStop m left.reach left.verdict left.audit (view left.desk) L kept;
     none = λ at line report none. none.event;
     some = λ at line report left tells. tells.event;
-    left_open = λ left L kept is_open. inr is_open;
+    early = λ left L kept early. inr (early_open left.reach left.verdict early);
     fine = λ at line told L kept stop bad. bad.0.no_event stop.event stop.is;
   }
 
@@ -217,14 +207,15 @@ module _ {K T : Type 0} (k : Ghosts K T) {V : Type 0} (view : K → V) (m : Mode
   own_fine τ at line told L kept (all_of_it own x) bad = bad.1 line (refl, own)
   own_fine τ at line told L kept (part_of_it own x) bad = bad.1 line (refl, own)
 
-  abbrev own_way : (τ : Tariff) → StopWay view m τ
-  own_way τ = record {
-    AtLine = λ at line told L kept. OwnStopped m τ at line told L kept;
-    Told = λ left L kept. TellsOwnStop m left.reach left.verdict left.audit (view left.desk) L kept;
-    none = λ at line report none. none.own;
-    some = λ at line report left tells. tells.own;
-    left_open = λ left L kept is_open. inr (open_undecided left.reach left.verdict is_open);
-    fine = λ at line told L kept stop bad. own_fine τ at line told L kept stop bad;
+  -- at an own line, as this reach says
+  abbrev own_way : Option Reach → (τ : Tariff) → StopWay view m τ
+  own_way reach τ = record {
+    AtLine = λ at line told L kept. AgreedStop m τ at line told L kept reach;
+    Told = λ left L kept. left.reach ≡ reach → TellsOwnStop m left.reach left.verdict left.audit (view left.desk) L kept;
+    none = λ at line report none told L kept stop report_is. none.own told L kept (stop.0, tt) report_is;
+    some = λ at line report left tells told L kept stop report_is same. tells.own told L kept (subst (λ (r : Option Reach). AgreedStop m τ at line told L kept r) (sym same) stop) report_is;
+    early = λ left L kept early same. inr (inl early);
+    fine = λ at line told L kept stop bad. own_fine τ at line told L kept stop.0 bad;
   }
 
   -- == what is said of the run ==
@@ -266,7 +257,7 @@ module _ {K T : Type 0} (k : Ghosts K T) {V : Type 0} (view : K → V) (m : Mode
 
       pub end_own_stops : (s : Status) → IsWhole s → Replayed (audit_lines k) (Run s) (turns.Ended (DidAudit k view m) AuditLeaves (Run s) w0 w1) left0 left1 t0 t1
           → StoppedInOwnIfFits m left0 w0.report rates (view w0.desk) (view w1.desk) old w1.audit verdict w0.reach
-      end_own_stops s whole r = at_end own_way _ s whole r
+      end_own_stops s whole r = at_end (own_way w0.reach) _ s whole r
 
       -- it ended at a line
       module _ (r : Replayed (audit_lines k) Stopped (turns.Ended (DidAudit k view m) AuditLeaves Stopped w0 w1) left0 left1 t0 t1) (only : (verdict ≡ w1.verdict) ⊎ IsCutShort verdict) where
@@ -278,13 +269,13 @@ module _ {K T : Type 0} (k : Ghosts K T) {V : Type 0} (view : K → V) (m : Mode
         own_so : (L : Ledger) (kept : V) → (verdict ≡ w1.verdict) ⊎ IsCutShort verdict → TellsOwnStop m w1.reach w1.verdict w1.audit (view w1.desk) L kept → TellsOwnStop m w0.reach verdict w1.audit (view w1.desk) L kept
         own_so L kept (inl is) told = subst (λ (v : SideVerdict). TellsOwnStop m w0.reach v w1.audit (view w1.desk) L kept) (sym is)
             (subst (λ (x : Option Reach). TellsOwnStop m x w1.verdict w1.audit (view w1.desk) L kept) (reach_kept k view m modelled alone r.did) told)
-        own_so L kept (inr cut) told = inr (λ none. inl cut)
+        own_so L kept (inr cut) told = inr (inl (inl cut))
 
         pub line_stops : StoppedIfFits m left0 w0.report rates (view w0.desk) (view w1.desk) old w1.audit verdict w0.reach
         line_stops = at_stop event_way _ (λ τ L kept told. told_so L kept only told) r
 
         pub line_own_stops : StoppedInOwnIfFits m left0 w0.report rates (view w0.desk) (view w1.desk) old w1.audit verdict w0.reach
-        line_own_stops = at_stop own_way _ (λ τ L kept told. own_so L kept only told) r
+        line_own_stops = at_stop (own_way w0.reach) _ (λ τ L kept told. own_so L kept only (told (reach_kept k view m modelled alone r.did))) r
 
   -- the audit was cut short
   module _ (script report : Option (List ℕ)) (rates : List ℕ) (v w : V) (old new : Audit) (verdict : SideVerdict) (reach : Option Reach) (cut : IsCutShort verdict) where
@@ -292,4 +283,4 @@ module _ {K T : Type 0} (k : Ghosts K T) {V : Type 0} (view : K → V) (m : Mode
     cut_stops = if_known k view m modelled alone script report _ (λ text told script_is report_is τ H texts history between f. inr (inl cut))
 
     pub cut_own_stops : StoppedInOwnIfFits m script report rates v w old new verdict reach
-    cut_own_stops = if_known k view m modelled alone script report _ (λ text told script_is report_is τ H texts history between f. inr (λ none. inl cut))
+    cut_own_stops = if_known k view m modelled alone script report _ (λ text told script_is report_is τ H texts history between f. inr (inl (inl cut)))

@@ -48,7 +48,7 @@ FailsAt _ reply = ⊥
 module _ (Mine : Node → Type 0) where
   -- no node comes on, no mark is printed, and a commit is such a node's
   pub record IsFirm (p : Plan) : Type 0 where
-    no_up : (m : Node) (k : ℕ) → p.reply ≡ r.Up m k → ⊥
+    pub no_up : (m : Node) (k : ℕ) → p.reply ≡ r.Up m k → ⊥
     no_print : (j : ℕ) → p.reply ≡ r.Printed j → ⊥
     pub own : (c : Commit) → p.commit ≡ Some c → Mine (node_of c)
 
@@ -119,12 +119,12 @@ module _ (τ : Tariff) (H : Ledger) where
   balance_firm w text = dated (λ m. ⊥) _ (λ today. at (λ m. ⊥) Centre H _ (said (λ m. ⊥) r.CentreRefused (centre.told_balance w) (left_act w _ _)
       (λ x. record { no_up = λ m k is. cc; no_print = λ j is. cc }) (λ left. record { no_up = λ m k is. cc; no_print = λ j is. cc }) (balance_own w _ _))) (day_in H)
 
-  send_firm : (job : ℕ) (text : List ℕ) → IsFirm (λ m. m ≡ Host) (plan τ todays_rules H (ev.Send job) text)
+  pub send_firm : (job : ℕ) (text : List ℕ) → IsFirm (λ m. m ≡ Host) (plan τ todays_rules H (ev.Send job) text)
   unfolding plan
   send_firm job text = dated (λ m. m ≡ Host) _ (λ today. at (λ m. m ≡ Host) Host H _ (said (λ m. m ≡ Host) r.HostRefused (host.told_sent job (messages H)) (debit_message_by job (host.in_commits (counted H)))
       (λ x. record { no_up = λ m k is. cc; no_print = λ j is. cc }) (λ note. record { no_up = λ m k is. cc; no_print = λ j is. cc }) (send_own _))) (day_in H)
 
-  scan_firm : (n : ℕ) (bytes text : List ℕ) → IsFirm (λ m. m ≡ Verifier) (plan τ todays_rules H (ev.ScanHex n bytes) text)
+  pub scan_firm : (n : ℕ) (bytes text : List ℕ) → IsFirm (λ m. m ≡ Verifier) (plan τ todays_rules H (ev.ScanHex n bytes) text)
   unfolding plan
   scan_firm n bytes text = dated (λ m. m ≡ Verifier) _ (λ today. at (λ m. m ≡ Verifier) Verifier H _ (said (λ m. m ≡ Verifier) r.ScanRefused (scans.told_accepted n) (read_act n bytes today (scans.in_commits (counted H)) (read_mark bytes))
       (λ x. record { no_up = λ m k is. cc; no_print = λ j is. cc }) (λ told. record { no_up = λ m k is. cc; no_print = λ j is. cc }) (read_own n bytes today (counted H) (read_mark bytes)))) (day_in H)

@@ -27,9 +27,6 @@ abbrev pub LeftFrom : List (List ℕ) → ℕ → Option (List ℕ) → Option (
 LeftFrom texts n a b = (first : List ℕ) (more : List (List ℕ)) (told : List ℕ) → texts ≡ first ∷ more → AllByRecursion IsText more → a ≡ Some (flat_map ended more ++ told)
     → b ≡ Some (flat_map ended (drop (n - 1) more) ++ told)
 
-pub left_none : (texts : List (List ℕ)) (a : Option (List ℕ)) → LeftFrom texts 1 a a
-left_none texts a = λ first more told are each is. is
-
 -- the text of the next number is next
 pub record NextText (more : List (List ℕ)) (n : ℕ) (t told : List ℕ) (b : Option (List ℕ)) : Type 0 where
   pub is : IsText t
@@ -70,9 +67,6 @@ all_more (x ∷ l) (suc n) t at is each = (each.0, all_more l n t at is each.1)
 -- the texts up to number n, from the second on, are lines
 abbrev pub AreLines : List (List ℕ) → ℕ → Type 0
 AreLines texts n = (first : List ℕ) (more : List (List ℕ)) → texts ≡ first ∷ more → AllByRecursion IsText (take (n - 1) more)
-
-pub lines_none : (texts : List (List ℕ)) → AreLines texts 1
-lines_none texts = λ first more are. tt
 
 pub lines_more : (texts : List (List ℕ)) (n : ℕ) (t : List ℕ) → 1 ≤ n → slice_get texts n ≡ Some t → IsText t → AreLines texts n → AreLines texts (n + 1)
 lines_more texts zero t some at is lines = absurd (omega (arith, some))

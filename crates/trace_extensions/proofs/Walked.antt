@@ -1,5 +1,5 @@
 -- A run that fits goes the way of the audit, line by line.
-use Rattle.std.proofs.Common.{◌≡◌, ℕ, List, [], ◌∷◌, ◌++◌, map, Option, Some, refl, sym, ◌∙◌, ap, subst, append_assoc}
+use Rattle.std.proofs.Common.{◌≡◌, inl, inr, ℕ, List, [], ◌∷◌, ◌++◌, map, Option, Some, refl, sym, ◌∙◌, ap, subst, append_assoc}
 use Rattle.std.specs.List.{AllByRecursion}
 use Rattle.ledger_moves.specs.Tariffs.{Tariff}
 use Rattle.line_runs.specs.Trace.{report_of}
@@ -7,11 +7,17 @@ use Rattle.line_extensions.specs.Desks.{World, side_lines, Does}
 use Rattle.line_extensions.specs.SideTrace.{SideStep, side_line, side_text, SideIsOf, IsBroken}
 use Rattle.line_extensions.specs.declared.extension.Extension.{Ghosts}
 use Rattle.trace_extensions.specs.Exact.{MayBe, Only}
-use Rattle.trace_extensions.specs.Fits.{IsOpen, HasTexts}
+use Rattle.trace_extensions.specs.declared.{papers.Reach.Reach, papers.SideVerdict.SideVerdict}
+use Rattle.trace_extensions.specs.Fits.{EndsEarly, IsOpen, HasTexts}
 use Rattle.trace_extensions.specs.Models.{Model, by_model}
 use Rattle.trace_extensions.specs.Places.{Place, MayStep}
 use Rattle.trace_extensions.specs.Steps.{AuditStep, Passed, Heard, Own, Begun, Ended, audit_line, AuditEnds}
 use Rattle.trace_extensions.proofs.Translated.{NoneEnds}
+
+-- an audit that ended early leaves it open
+pub early_open : (reach : Option Reach) (verdict : SideVerdict) → EndsEarly reach verdict → IsOpen reach verdict
+early_open reach verdict (inl cut) = inl cut
+early_open reach verdict (inr past) = inr (past.0, past.1, inr past.2)
 
 module _ {K T : Type 0} (k : Ghosts K T) {V : Type 0} (view : K → V) (m : Model V) where
   -- a step of a run that goes on or ends by its script
@@ -61,8 +67,8 @@ module _ {K T : Type 0} (k : Ghosts K T) {V : Type 0} (view : K → V) (m : Mode
     EndedAt (Passed line) = ⊥
     EndedAt (Heard line e answer) = ⊥
     EndedAt (Own line own texts) = ⊥
-    EndedAt (Begun line told left) = IsOpen left.reach left.verdict
-    EndedAt (Ended line left) = IsOpen left.reach left.verdict
+    EndedAt (Begun line told left) = EndsEarly left.reach left.verdict
+    EndedAt (Ended line left) = EndsEarly left.reach left.verdict
 
     -- the run goes on at the line at which the audit ended
     pub walk_past : (xs : List (AuditStep k.Own K)) (last : AuditStep k.Own K) (more : List (List ℕ)) (ys : List (SideStep (List ℕ))) (at new : World Place V) (report : Option (List ℕ)) (told : List ℕ)

@@ -38,6 +38,15 @@ abbrev pub IsUnbegun : Option Reach → ℕ → Type 0
 IsUnbegun None n = ⊥
 IsUnbegun (Some reach) n = (reach.line ≡ n) × (reach.steps ≡ None)
 
+-- the reach is of the line of this number
+abbrev pub IsReachOf : Option Reach → ℕ → Type 0
+IsReachOf None n = ⊥
+IsReachOf (Some reach) n = reach.line ≡ n
+
+-- The audit ended before the runs that fit do: it was cut short; or the report goes on at a line of which nothing was begun, as the reach says.
+abbrev pub EndsEarly : Option Reach → SideVerdict → Type 0
+EndsEarly reach verdict = IsCutShort verdict ⊎ ((n : ℕ) × IsUnbegun reach n × (verdict ≡ PastReach n))
+
 -- the verdict is on a line of which nothing was begun, as the reach says: the audit doesn't look what line it is
 abbrev pub IsByReach : Option Reach → SideVerdict → Type 0
 IsByReach reach verdict = (n : ℕ) × IsUnbegun reach n × ((verdict ≡ StoppedInOwn n) ⊎ (verdict ≡ PastReach n))

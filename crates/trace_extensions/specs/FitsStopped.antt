@@ -1,7 +1,7 @@
 -- That a run with an extension may have been stopped within a line, by the model of the extension; and what a verdict says then.
-use Rattle.std.specs.Prelude.{◌≡◌, ◌⊎◌, ℕ, ◌+◌, ◌≤◌, List, [], ◌∷◌, ◌++◌, Option, None, length, map}
+use Rattle.std.specs.Prelude.{◌≡◌, ◌⊎◌, ℕ, ◌+◌, ◌≤◌, List, [], ◌∷◌, ◌++◌, Option, Some, None, length, map}
 use Rattle.std.specs.List.{AllByRecursion}
-use Rattle.bench_base.specs.declared.events.Event.{Event}
+use Rattle.bench_base.specs.declared.{words.Node.Node, events.Event.Event}
 use Rattle.bench_base.specs.Ledger.{Ledger}
 use Rattle.bench_base.specs.Rules.{editions}
 use Rattle.ledger_moves.specs.Tariffs.{Tariff}
@@ -15,11 +15,12 @@ use Rattle.line_extensions.specs.Events.{IsLineOf}
 use Rattle.line_extensions.specs.SideTrace.{SideStep, side_line}
 use Rattle.line_extensions.specs.declared.{extension.Next.Next, extension.Next.TheVariants.Step, extension.Next.TheVariants.Say}
 use Rattle.trace_bench.specs.Seeing.{Audit}
+use Rattle.trace_bench.specs.Prefixes.{IsFailure}
 use Rattle.trace_bench.specs.Stopping.{IsPrefixOf}
 use Rattle.trace_runs.specs.Between.{SeesBetween}
 use Rattle.trace_runs.specs.Fitting.{AtSeen, BeginsTold}
 use Rattle.trace_runs.specs.Runs.{StopLeaves}
-use Rattle.trace_extensions.specs.Fits.{AtKnown, HasTexts, IsCutShort, IsOpen, IsText}
+use Rattle.trace_extensions.specs.Fits.{AtKnown, EndsEarly, HasTexts, IsOpen, IsReachOf, IsText}
 use Rattle.trace_extensions.specs.Models.{Model, by_model}
 use Rattle.trace_extensions.specs.Places.{Place, place, MayStep}
 use Rattle.trace_extensions.specs.declared.{papers.Reach.Reach, papers.SideVerdict.SideVerdict, papers.SideVerdict.TheVariants.Stopped, papers.SideVerdict.TheVariants.StoppedInOwn, papers.SideVerdict.TheVariants.InDoubt}
@@ -33,6 +34,27 @@ IsCutOf told (text ∷ more) = (IsPrefixOf told text × IsText told) ⊎ ((rest 
 abbrev pub LeftByStep : Tariff → Place → Event → Ledger → Type 0
 LeftByStep τ at event K =
     (BeginsTold τ at.ledger at.left event [] × StopLeaves τ at.ledger event at.left [] K) ⊎ ((Unforged event at.ledger → ⊥) × (K ≡ at.ledger))
+
+-- == how far a run came ==
+
+-- no node failed in the step
+abbrev pub IsFine : StepRecord → Type 0
+IsFine d = (n : Node) → IsFailure d.reply n → ⊥
+
+-- none, or one in which a node failed
+abbrev pub IsFailing : List StepRecord → Type 0
+IsFailing [] = Unit {0}
+IsFailing (d ∷ []) = (n : Node) × IsFailure d.reply n
+IsFailing (d ∷ e ∷ more) = ⊥
+
+-- so many steps were done without a failure of a node, and at most one more, in which a node failed
+pub record HasDone (count : ℕ) (steps : List StepRecord) : Type 0 where
+  pub fine : List StepRecord
+  pub last : List StepRecord
+  pub are : steps ≡ fine ++ last
+  pub many : length fine ≡ count
+  pub each : AllByRecursion IsFine fine
+  pub fails : IsFailing last
 
 -- == at a line ==
 
@@ -81,6 +103,23 @@ module _ {V : Type 0} (m : Model V) (τ : Tariff) (at : World Place V) (line tol
     all_of_it : m.IsOwn line → AllDone → OwnStopped
     part_of_it : m.IsOwn line → StepAsked → OwnStopped
 
+  -- THE RUN CAME SO FAR in its line: nothing of it was begun, or so many of its steps were done
+  abbrev pub ComesTo : Option ℕ → OwnStopped → Type 0
+  ComesTo None (not_begun own none) = Unit {0}
+  ComesTo None (all_of_it own done) = ⊥
+  ComesTo None (part_of_it own asked) = ⊥
+  ComesTo (Some count) (not_begun own none) = ⊥
+  ComesTo (Some count) (all_of_it own done) = HasDone count done.steps
+  ComesTo (Some count) (part_of_it own asked) = HasDone count asked.steps
+
+  -- as the reach says, if one is given
+  abbrev pub Agrees : Option Reach → OwnStopped → Type 0
+  Agrees None stop = Unit {0}
+  Agrees (Some reach) stop = ComesTo reach.steps stop
+
+  abbrev pub AgreedStop : Option Reach → Type 0
+  AgreedStop reach = (stop : OwnStopped) × Agrees reach stop
+
   -- NOTHING OF IT WAS BEGUN, whatever line it is
   pub record Unbegun : Type 0 where
     pub silent : told ≡ []
@@ -95,9 +134,9 @@ module _ {V : Type 0} (m : Model V) (τ : Tariff) (at : World Place V) (line tol
 
 -- == of a run ==
 
--- The audit was cut short, or the run is in doubt. It says nothing of a verdict by a reach.
+-- The audit ended early; or the run is in doubt, and no reach is given for its line.
 abbrev pub IsUndecided : Option Reach → SideVerdict → Type 0
-IsUndecided reach verdict = (reach ≡ None → IsCutShort verdict ⊎ ((n : ℕ) × (verdict ≡ InDoubt n)))
+IsUndecided reach verdict = EndsEarly reach verdict ⊎ ((n : ℕ) × (verdict ≡ InDoubt n) × (IsReachOf reach n → ⊥))
 
 -- it is said that the run was stopped
 abbrev pub SaysStopped : SideVerdict → Type 0
@@ -146,9 +185,9 @@ module _ {V : Type 0} (m : Model V) where
     abbrev pub TellsStop : Ledger → V → Type 0
     TellsStop K kept = IsToldStop K kept ⊎ IsOpen reach verdict
 
-    -- it was stopped so, or that is undecided
+    -- it was stopped so, if need be as the reach says, or that is undecided
     abbrev pub TellsOwnStop : Ledger → V → Type 0
-    TellsOwnStop K kept = IsToldStop K kept ⊎ IsUndecided reach verdict
+    TellsOwnStop K kept = (SaysStopped verdict × SeesBetween new K × m.Alike w kept) ⊎ IsUndecided reach verdict
 
   -- These rates were left, and this was kept before the run and after it; the auditor had this before, and has that.
   module _ (script report : Option (List ℕ)) (rates : List ℕ) (v w : V) (old new : Audit) (verdict : SideVerdict) (reach : Option Reach) where
@@ -163,7 +202,7 @@ module _ {V : Type 0} (m : Model V) where
     StoppedIfFits = AtKnown m script report (λ text told. AtSeen old (λ τ H. (fits : FitsStopped (λ at line told K kept. EventStopped m τ at line told K kept) τ H text told rates v)
         → TellsStop reach verdict new w fits.ledger fits.kept))
 
-    -- if it may have been stopped at an own line, it is called so, or in doubt
+    -- IF IT MAY HAVE BEEN STOPPED AT AN OWN LINE, as the reach says, it is called so, or that is undecided
     abbrev pub StoppedInOwnIfFits : Type 0
-    StoppedInOwnIfFits = AtKnown m script report (λ text told. AtSeen old (λ τ H. (fits : FitsStopped (λ at line told K kept. OwnStopped m τ at line told K kept) τ H text told rates v)
+    StoppedInOwnIfFits = AtKnown m script report (λ text told. AtSeen old (λ τ H. (fits : FitsStopped (λ at line told K kept. AgreedStop m τ at line told K kept reach) τ H text told rates v)
         → TellsOwnStop reach verdict new w fits.ledger fits.kept))

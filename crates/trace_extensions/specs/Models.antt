@@ -5,7 +5,7 @@ use Rattle.bench_base.specs.declared.events.Event.TheVariants as ev
 use Rattle.node_turns.specs.declared.turn.Turn.{Turn}
 use Rattle.line_extensions.specs.Trace.{StepRecord}
 use Rattle.line_extensions.specs.Desks.{World}
-use Rattle.line_extensions.specs.declared.{extension.Extension.Ghosts, extension.Next.Next, extension.Next.TheVariants.Step, extension.Next.TheVariants.Stop}
+use Rattle.line_extensions.specs.declared.{extension.Extension.Ghosts, extension.Next.Next, extension.Next.TheVariants.Step, extension.Next.TheVariants.Say, extension.Next.TheVariants.Stop}
 use Rattle.trace_bench.specs.Prefixes.{IsFailure}
 use Rattle.trace_extensions.specs.Places.{Place}
 
@@ -67,11 +67,29 @@ pub record IsIdle {V : Type 0} (m : Model V) (old new : World Place V) (next : N
   pub alike : m.Alike new.desk old.desk
   pub asks : (event : Event) → next ≡ Step event → (customer : ℕ) × (event ≡ ev.Balance customer)
 
--- == what the first line of an answer tells of the steps ==
+-- == the steps that it asks for ==
 
 -- an event that gets one answer, unless its node fails
 abbrev pub IsSure : Event → Type 0
 IsSure e = ((scan : ℕ) × (bytes : List ℕ) × (e ≡ ev.ScanHex scan bytes)) ⊎ (((job : ℕ) × (e ≡ ev.Send job)) ⊎ ((customer : ℕ) × (e ≡ ev.Balance customer)))
+
+-- it asks for such events alone
+pub record AsksSurely {V : Type 0} (m : Model V) : Type 0 where
+  pub first : (v w : V) (line : List ℕ) (e : Event) → m.Begins v line (Step e) w → IsSure e
+  pub then : (v w : V) (turn : Turn) (e : Event) → m.Goes v turn (Step e) w → IsSure e
+
+-- A failure of a node ends its line, and what is kept for the next run is as it was.
+abbrev pub EndsByFailure : {V : Type 0} → Model V → Type 0
+EndsByFailure {V} m = (v w : V) (turn : Turn) (next : Next) (n : Node) → IsFailure turn.reply n → m.Goes v turn next w → (next ≡ Say) × m.Alike w v
+
+-- == what the first line of an answer tells of them ==
+
+-- what a line tells are failures of one node, each by one line at each step, and the empty line tells none
+pub record AreFailures (Fails : ℕ → List ℕ → Reply → Type 0) : Type 0 where
+  pub node : Node
+  pub fails : (number : ℕ) (line : List ℕ) (reply : Reply) → Fails number line reply → IsFailure reply node
+  pub one_line : (number : ℕ) (line other : List ℕ) (reply : Reply) → Fails number line reply → Fails number other reply → line ≡ other
+  pub none : (number : ℕ) (reply : Reply) → Fails number [] reply → ⊥
 
 -- The step of this number was such an event. It got the failure of a node that the line tells; or the line tells none, and no node failed in it.
 pub record IsToldOf (Fails : ℕ → List ℕ → Reply → Type 0) (number : ℕ) (line : List ℕ) (d : StepRecord) : Type 0 where

@@ -10,8 +10,8 @@ use Rattle.trace_runs.specs.Runs.{Papers, FitsRun, FindsNothing as FindsNothingI
 use Rattle.trace_runs.specs.Verdicts.{Says, status_of}
 use Rattle.trace_runs.specs.declared.{verdict.Ending.Ending, verdict.Verdict.Verdict}
 use Rattle.line_extensions.specs.Desks.{World}
-use Rattle.trace_extensions.specs.Fits.{FitsSo, FitsIfLawful, LawfulIfFits, IsOpen as IsOpenIn}
-use Rattle.trace_extensions.specs.FitsStopped.{StopsAt, at_event, at_own_line, before_it, FitsStopped, FitsIfStopped, StoppedIfFits, StoppedInOwnIfFits, IsUndecided, SaysStopped}
+use Rattle.trace_extensions.specs.Fits.{FitsSo, FitsIfLawful, LawfulIfFits, IsOpen}
+use Rattle.trace_extensions.specs.FitsStopped.{Agrees, ComesTo, FitsStopped, FitsIfStopped, IsUndecided, OwnStopped, SaysStopped, StoppedIfFits, StoppedInOwnIfFits, StopsAt, at_event, at_own_line, before_it}
 use Rattle.trace_extensions.specs.Models.{Model}
 use Rattle.trace_extensions.specs.Places.{Place}
 use Rattle.trace_extensions.specs.declared.{papers.Reach.Reach, papers.SideVerdict.SideVerdict, papers.SideVerdict.TheVariants.Lawful}
@@ -105,31 +105,36 @@ abbrev pub FindsNothing : Judged → Type 0
 FindsNothing (EventsJudged p v) = FindsNothingIn v
 FindsNothing (UnderJudged w p x y reach v) = ((end : Ending) × (v ≡ Lawful end)) ⊎ SaysStopped v
 
--- The verdict leaves it open whether a run was stopped so. At an own line it does, too, if it is in doubt, and by any reach; and before a line of which
--- nothing was begun.
-abbrev pub IsOpenAt : {V : Type 0} (m : Model V) (τ : Tariff) (at : World Place V) (line told : List ℕ) (K : Ledger) (kept : V) → Option Reach → SideVerdict
-    → StopsAt m τ at line told K kept → Type 0
-IsOpenAt m τ at line told K kept reach v (at_event stop) = IsOpenIn reach v
-IsOpenAt m τ at line told K kept reach v (at_own_line stop) = IsUndecided reach v
-IsOpenAt m τ at line told K kept reach v (before_it stop) = Unit {0}
+-- The verdict decides whether a run was stopped so. At an own line the run has to have come as far as the reach says; and before a line of which nothing
+-- was begun, whatever line it is, no verdict does.
+abbrev pub DecidesAt : {V : Type 0} (m : Model V) (τ : Tariff) (at : World Place V) (line told : List ℕ) (K : Ledger) (kept : V) → Option Reach
+    → SideVerdict → StopsAt m τ at line told K kept → Type 0
+DecidesAt m τ at line told K kept reach v (at_event stop) = IsOpen reach v → ⊥
+DecidesAt m τ at line told K kept reach v (at_own_line stop) = Agrees m τ at line told K kept reach stop × (IsUndecided reach v → ⊥)
+DecidesAt m τ at line told K kept reach v (before_it stop) = ⊥
 
-abbrev pub IsOpenUnder : (τ : Tariff) (H : Ledger) (k : Beside) (w : Word) (p : Papers) (K : Ledger) (l : Beside) → Option Reach → SideVerdict
+abbrev pub DecidesUnder : (τ : Tariff) (H : Ledger) (k : Beside) (w : Word) (p : Papers) (K : Ledger) (l : Beside) → Option Reach → SideVerdict
     → FitsUnder τ H k w p K l → Type 0
-IsOpenUnder τ H k w p K l reach v (to_its_end ends) = IsOpenIn reach v
-IsOpenUnder τ H k w p K l reach v (to_its_stop stops) =
-    let f = stops.fits in IsOpenAt (model_of w) τ f.behind f.line f.told f.ledger f.kept reach v f.stop
+DecidesUnder τ H k w p K l reach v (to_its_end ends) = IsOpen reach v → ⊥
+DecidesUnder τ H k w p K l reach v (to_its_stop stops) =
+    let f = stops.fits in DecidesAt (model_of w) τ f.behind f.line f.told f.ledger f.kept reach v f.stop
 
--- the verdict leaves it open whether the run fits so
-abbrev pub IsOpen : (τ : Tariff) (H : Ledger) (k : Beside) (K : Ledger) (l : Beside) → (r : Judged) → FitsOne τ H k (run_of r) K l → Type 0
-IsOpen τ H k K l (EventsJudged p v) fits = IsCutShort v
-IsOpen τ H k K l (UnderJudged w p x y reach v) fits = IsOpenUnder τ H k w p K l reach v fits
+-- the verdict decides whether the run fits so
+abbrev pub Decides : (τ : Tariff) (H : Ledger) (k : Beside) (K : Ledger) (l : Beside) → (r : Judged) → FitsOne τ H k (run_of r) K l → Type 0
+Decides τ H k K l (EventsJudged p v) fits = IsCutShort v → ⊥
+Decides τ H k K l (UnderJudged w p x y reach v) fits = DecidesUnder τ H k w p K l reach v fits
 
--- no verdict leaves it open whether its run fits as it does here
-abbrev pub NoneOpen : (τ : Tariff) (H : Ledger) (k : Beside) → (audits : List AuditedRun) → Fit τ H k (runs_of audits) → Type 0
-NoneOpen τ H k [] fit = Unit {0}
-NoneOpen τ H k (r ∷ audits) fit = (IsOpen τ H k fit.0 fit.1 r.judged fit.2 → ⊥) × NoneOpen τ fit.0 fit.1 audits fit.3
+-- each verdict decides whether its run fits as it does here
+abbrev pub AllDecide : (τ : Tariff) (H : Ledger) (k : Beside) → (audits : List AuditedRun) → Fit τ H k (runs_of audits) → Type 0
+AllDecide τ H k [] fit = Unit {0}
+AllDecide τ H k (r ∷ audits) fit = Decides τ H k fit.0 fit.1 r.judged fit.2 × AllDecide τ fit.0 fit.1 audits fit.3
 
--- RUNS OF ALL WORDS ARE JUDGED EXACTLY. If the verdicts find nothing, the runs fit. If the runs fit, and no verdict leaves that open, they find nothing.
+-- SOME REACH SAYS how far a run came that was stopped at an own line: so the one that tries all misses none.
+abbrev pub HasReach : Word → Type 0
+HasReach w = (τ : Tariff) (at : World Place (View w)) (line told : List ℕ) (K : Ledger) (kept : View w)
+    → (stop : OwnStopped (model_of w) τ at line told K kept) → (steps : Option ℕ) × ComesTo (model_of w) τ at line told K kept steps stop
+
+-- RUNS OF ALL WORDS ARE JUDGED EXACTLY. If the verdicts find nothing, the runs fit. If the runs fit, and each verdict decides that, they find nothing.
 pub record AreExact (start : Audit) (k : Beside) (audits : List AuditedRun) : Type 0 where
   pub sound : AllByRecursion (λ r. FindsNothing r.judged) audits → AtStart start (λ τ H. Fit τ H k (runs_of audits))
-  pub complete : AtStart start (λ τ H. (fit : Fit τ H k (runs_of audits)) → NoneOpen τ H k audits fit → AllByRecursion (λ r. FindsNothing r.judged) audits)
+  pub complete : AtStart start (λ τ H. (fit : Fit τ H k (runs_of audits)) → AllDecide τ H k audits fit → AllByRecursion (λ r. FindsNothing r.judged) audits)

@@ -1,5 +1,5 @@
 //! The steps that an extension asks for, taken from what the report has for its line.
-ghost use Rattle.std.specs.Prelude.{◌≡◌, ◌≢◌, ◌+◌, ◌<◌, ◌≤◌, List, length, IfErr, IfOk, IfSome, MatchResult};
+ghost use Rattle.std.specs.Prelude.{◌≡◌, ◌≢◌, ◌+◌, ◌<◌, ◌≤◌, List, [], length, IfErr, IfOk, IfSome, IsSome, MatchResult};
 ghost use Rattle.bench_base.specs.Events.{IsWholeEvent};
 ghost use Rattle.bench_base.specs.declared.events.Reply.{Reply as TheReply};
 ghost use Rattle.bench.specs.declared.benches.TheConstants.{MOST_MESSAGES};
@@ -173,12 +173,19 @@ pub(crate) fn ask_some<D: TracedExtension>(
     ensures may { IfOk result (λ o. IfSome o (λ next. MayAsk next (D.left desk.new))) }
     ensures asked { IfOk result (λ o. IfSome o (λ next. AtEachSeen (audit_of auditor.old) (λ τ H. AskedSo ⟦<D as Extension>⟧ τ
         (world (place H (left_of rates.old)) desk.old) (audit_of auditor.new) (left_of rates.new) desk.new first next))) }
+    ensures only { AtEachSeen (audit_of auditor.old) (λ τ H. (mid : World Place D.View) (steps : List StepRecord) (last : TheNext)
+        → Asks (by_model D.model) (MayStep τ) (world (place H (left_of rates.old)) (D.view desk.old)) mid first steps last
+        → AreToldOf D.Fails 1 [] steps → length steps ≡ count
+        → MatchResult result (λ o. IsSome o × IfSome o (λ next. next ≢ TheNext.Stop → (last ≡ next) × IsMet D.view τ
+        (audit_of auditor.new) (left_of rates.new) desk.new mid)) (λ why. IsOpenMiss why)) }
 {
     let sent = auditor.message_count();
     let mut next = first;
     for number in 0..count {
-        let Next::Step(event) = next else {
-            return Ok(None);
+        let event = match next {
+            Next::Step(event) => event,
+            Next::Say => return Ok(None),
+            Next::Stop => return Err(Miss::Memory),
         };
         // Only the last step of a line may send a message.
         if sent != auditor.message_count() {

@@ -14,7 +14,7 @@ pub trait TracedExtension: Extension {
     ghost use Rattle.line_extensions.specs.declared.extension.Next.{Next as TheNext};
     ghost use Rattle.line_extensions.specs.declared.extension.Next.TheVariants.{Say};
     ghost use Rattle.trace_bench.specs.Stopping.{IsPrefixOf};
-    ghost use Rattle.trace_extensions.specs.Models.{Model, by_model, AreAlike, AreToldOf, IsDetermined, IsIdle, IsModelOf, TellsFailures};
+    ghost use Rattle.trace_extensions.specs.Models.{Model, by_model, AreAlike, AreFailures, AreToldOf, AsksSurely, EndsByFailure, IsDetermined, IsIdle, IsModelOf, TellsFailures};
     ghost use Rattle.trace_extensions.specs.Places.{Place, MayStep};
 
     /// What it keeps and says, whatever its storage is.
@@ -56,6 +56,9 @@ pub trait TracedExtension: Extension {
         ensures modelled { IsModelOf ⟦<Self as Extension>⟧ view model }
         ensures determined { IsDetermined model }
         ensures alike { AreAlike model }
+        ensures asks { AsksSurely model }
+        ensures ends { EndsByFailure model }
+        ensures failures { AreFailures Fails }
         ensures one_failure { (number : ℕ) (line : List ℕ) (x y : Reply) → Fails number line x → Fails number line y → x ≡ y }
         ensures tells { (τ : Tariff) (old new : World Place View) (line : List ℕ) (steps : List StepRecord)
             → DidOwn (by_model model) (MayStep τ) old new line steps Say → TellsFailures Fails steps (model.texts new.desk) };

@@ -1,5 +1,5 @@
 //! The lines of a script beside those of its report: events of the bench, or an extension's own.
-ghost use Rattle.std.specs.Prelude.{◌≡◌, ◌≢◌, ◌↔◌, ◌+◌, ◌++◌, ◌<◌, ◌≤◌, ℕ, List, Some, IsTrue, true, false, length, flat_map, MatchBool};
+ghost use Rattle.std.specs.Prelude.{◌≡◌, ◌≢◌, ◌↔◌, ◌+◌, ◌++◌, ◌<◌, ◌≤◌, ℕ, List, None, Some, IsTrue, true, false, length, flat_map, MatchBool};
 ghost use Rattle.std.specs.List.{AllByRecursion};
 ghost use Rattle.std.specs.Io.KnownBytes.{Consumes, IsAtEnd};
 ghost use Rattle.bench.specs.declared.benches.TheConstants.{MOST_MESSAGES};
@@ -8,7 +8,7 @@ ghost use Rattle.line_extensions.specs.Trace.{StepRecord};
 ghost use Rattle.line_extensions.specs.declared.extension.Next.{Next as TheNext};
 ghost use Rattle.line_runs.specs.Lines.{ended};
 ghost use Rattle.trace_extensions.specs.Exact.{EachOwnLeft, HasNext, IsMet, MayAnswer};
-ghost use Rattle.trace_extensions.specs.Fits.{IsCutShort, IsText};
+ghost use Rattle.trace_extensions.specs.Fits.{IsCutShort, IsText, IsUnbegun};
 ghost use Rattle.trace_extensions.specs.FitsStopped.{TellsOwnStop};
 ghost use Rattle.trace_extensions.specs.Places.{Place, place};
 ghost use Rattle.trace_extensions.specs.Takes.{AtEachSeen};
@@ -100,7 +100,7 @@ fn own_fits<R: Source, D: TracedExtension>(
         × (⟦<ReadAhead<R> as Source>⟧.left papers.new.report ≡ Some told)) (IsCutShort papers.new.verdict)) }
     ensures texts { result ≡ true → IsText answer.now → AllByRecursion IsText (D.texts desk.new) }
     ensures stops { AtEachSeen (audit_of auditor.old) (λ τ H. (told : List ℕ) → IsText answer.now → ⟦<ReadAhead<R> as Source>⟧.left papers.old.report ≡ Some told
-        → EachOwnLeft D.model τ (place H (left_of rates.old)) (D.view desk.old) first (ended answer.now ++ told) (λ K kept. MatchBool result ⊥
+        → EachOwnLeft D.model τ (place H (left_of rates.old)) (D.view desk.old) first (ended answer.now ++ told) None (λ K kept. MatchBool result ⊥
         (TellsOwnStop D.model papers.new.reach papers.new.verdict (audit_of auditor.new) (D.view desk.new) K kept))) }
     ensures reach { papers.new.reach ≡ papers.old.reach }
 {
@@ -144,6 +144,7 @@ fn own_line<R: Source, D: TracedExtension>(
     requires may { MayAsk first (D.left desk.old) }
     requires ready { IsReady (audit_of auditor.old) }
     requires few { length (audit_of auditor.old).messages < MOST_MESSAGES }
+    requires begun { IsUnbegun papers.old.reach number → ⊥ }
     ensures ready { IsReady (audit_of auditor.new) }
     ensures few { length (audit_of auditor.new).messages ≤ length (audit_of auditor.old).messages + 1 }
     ensures kept { keeps (audit_of auditor.new) ≡ keeps (audit_of auditor.old) }
@@ -165,8 +166,9 @@ fn own_line<R: Source, D: TracedExtension>(
         × (⟦<ReadAhead<R> as Source>⟧.left papers.new.report ≡ Some told)) (IsCutShort papers.new.verdict)) }
     ensures texts { result ≡ true → AllByRecursion IsText (D.texts desk.new) }
     ensures stops { AtEachSeen (audit_of auditor.old) (λ τ H. (told : List ℕ) → ⟦<ReadAhead<R> as Source>⟧.left papers.old.report ≡ Some told
-        → EachOwnLeft D.model τ (place H (left_of rates.old)) (D.view desk.old) first told (λ K kept. MatchBool result ⊥
-        (TellsOwnStop D.model papers.new.reach papers.new.verdict (audit_of auditor.new) (D.view desk.new) K kept))) }
+        → MatchBool result (EachOwnLeft D.model τ (place H (left_of rates.old)) (D.view desk.old) first told None (λ K kept. ⊥))
+        (EachOwnLeft D.model τ (place H (left_of rates.old)) (D.view desk.old) first told papers.new.reach
+        (TellsOwnStop D.model papers.new.reach papers.new.verdict (audit_of auditor.new) (D.view desk.new)))) }
     ensures reach { papers.new.reach ≡ papers.old.reach }
 {
     let mut buf = [0; 600];

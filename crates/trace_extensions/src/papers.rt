@@ -1,5 +1,5 @@
 //! What an audit reads beside the script of a run, and what it finds.
-ghost use Rattle.std.specs.Prelude.{◌≡◌, ◌↔◌, IsTrue, None};
+ghost use Rattle.std.specs.Prelude.{◌≡◌, ◌↔◌, IsTrue, Some, IfSome, IfNone};
 
 use crate::transcript::Transcript;
 use bench_base::stream::Source;
@@ -70,7 +70,8 @@ pub struct Papers<R: Source> {
 }
 
 impl<R: Source> Papers<R> {
-    ghost use Rattle.trace_extensions.specs.Fits.{IsUnbegun};
+    ghost use Rattle.trace_extensions.specs.Fits.{IsReachOf, IsUnbegun};
+    ghost use Rattle.trace_extensions.specs.declared.papers.Reach.{Reach as TheReach};
 
     /// Of a report of which nothing was read.
     pub fn new(
@@ -107,7 +108,8 @@ impl<R: Source> Papers<R> {
 
     // How many steps of the line of this number were done, if it was begun.
     pub(crate) fn steps_in(&self, line: u32) -> Option<u32>
-        ensures none { self.now.reach ≡ None → result ≡ None }
+        ensures some { IfSome result (λ steps. (reach : TheReach) × (self.now.reach ≡ Some reach) × (reach.line ≡ line) × (reach.steps ≡ Some steps)) }
+        ensures none { IfNone result (IsReachOf self.now.reach line → IsUnbegun self.now.reach line) }
     {
         match self.reach {
             Some(reach) if reach.line == line => reach.steps,

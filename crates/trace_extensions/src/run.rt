@@ -62,7 +62,8 @@ fn unlawful(verdict: SideVerdict) -> SideVerdict
 /// next line of the script begun: the auditor sees what that may leave, and the extension is as it found it. `InDoubt` says nothing of either.
 ///
 /// If a run may have been stopped at the line of an event, it is called stopped, unless the verdict leaves that open; and the auditor sees what that
-/// stop leaves. If one may have been stopped at an own line, it is called stopped, too, or in doubt, if no reach is given.
+/// stop leaves. If one may have been stopped at an own line, as the reach says, it is called stopped, too, unless the audit ended early; if no reach is
+/// given for the line, it may be called in doubt.
 pub fn judge_side<S: Source, R: Source, D: TracedExtension>(
     alloc: Global,
     auditor: &mut Auditor,

@@ -1,8 +1,9 @@
 //! A report that ends within the answer to a line of its own.
-ghost use Rattle.std.specs.Prelude.{◌≡◌, ◌≢◌, ◌↔◌, ◌⊎◌, ◌+◌, ◌<◌, ◌≤◌, ℕ, List, [], ◌∷◌, IsTrue, length};
+ghost use Rattle.std.specs.Prelude.{◌≡◌, ◌≢◌, ◌↔◌, ◌⊎◌, ◌+◌, ◌<◌, ◌≤◌, ℕ, List, [], ◌∷◌, Some, IsTrue, length};
 ghost use Rattle.std.specs.Io.KnownBytes.{Consumes, IsAtEnd};
 ghost use Rattle.bench.specs.declared.benches.TheConstants.{MOST_MESSAGES};
 ghost use Rattle.bench_base.specs.Events.{IsWholeEvent};
+ghost use Rattle.bench_base.specs.Ledger.{Ledger};
 ghost use Rattle.line_extensions.specs.Desks.{World, world, Asks};
 ghost use Rattle.line_extensions.specs.Trace.{StepRecord};
 ghost use Rattle.line_extensions.specs.Wants.{MayAsk, IsStep};
@@ -10,13 +11,14 @@ ghost use Rattle.line_extensions.specs.declared.extension.Next.{Next as TheNext}
 ghost use Rattle.line_runs.specs.Lines.{IsOneLine};
 ghost use Rattle.trace_bench.specs.Seeing.{IsReady, audit_of, keeps};
 ghost use Rattle.trace_bench.specs.Stopping.{IsPrefixOf};
-ghost use Rattle.trace_extensions.specs.Exact.{EachOwnLeft, IsMet};
+ghost use Rattle.trace_extensions.specs.Exact.{EachOwnLeft, FailsAt, IsMet, reached};
 ghost use Rattle.trace_extensions.specs.Fits.{IsCutShort, IsOpen, IsText, IsUnbegun};
-ghost use Rattle.trace_extensions.specs.FitsStopped.{IsCutOf, TellsOwnStop};
+ghost use Rattle.trace_extensions.specs.FitsStopped.{IsCutOf, LeftByStep, TellsOwnStop};
 ghost use Rattle.trace_extensions.specs.Models.{by_model, AreToldOf};
 ghost use Rattle.trace_extensions.specs.Places.{Place, place, MayStep};
 ghost use Rattle.trace_extensions.specs.Rates.{left_of};
 ghost use Rattle.trace_extensions.specs.Takes.{AtEachSeen};
+ghost use Rattle.trace_runs.specs.Between.{SeesBetween};
 ghost use Rattle.trace_extensions.specs.Worlds.{AskedOne, EndsInOwn, StepLeft, StopsInOwn};
 ghost use Rattle.trace_extensions.specs.declared.papers.SideVerdict.{SideVerdict as Verdict};
 
@@ -26,7 +28,7 @@ use crate::extension::TracedExtension;
 use crate::papers::{Papers, SideVerdict};
 use crate::plain::miss;
 use crate::rates::RatesLeft;
-use crate::taking::{Miss, take_prefix};
+use crate::taking::take_prefix;
 use bench_base::events::Event;
 use bench_base::stream::Source;
 use ledger_laws::laws::histories;
@@ -52,13 +54,18 @@ pub(crate) fn own_unbegun<R: Source>(number: u32, papers: &mut Papers<R>)
         → Consumes (⟦<ReadAhead<R> as Source>⟧.left papers.old.report) (⟦<ReadAhead<R> as Source>⟧.left papers.new.report) []
         × IsAtEnd (⟦<ReadAhead<R> as Source>⟧.left papers.new.report) }
     ensures reach { papers.new.reach ≡ papers.old.reach }
+    ensures only { (byte : ℕ) (more : List ℕ) → ⟦<ReadAhead<R> as Source>⟧.left papers.old.report ≡ Some (byte ∷ more)
+        → (papers.new.verdict ≡ Verdict.PastReach number) ⊎ IsCutShort papers.new.verdict }
+    ensures stops { ⟦<ReadAhead<R> as Source>⟧.left papers.old.report ≡ Some []
+        → (papers.new.verdict ≡ Verdict.StoppedInOwn number) ⊎ IsCutShort papers.new.verdict }
     ensures open { IsUnbegun papers.old.reach number → IsOpen papers.old.reach papers.new.verdict }
 {
     papers.may_reach_more = true;
     let mut buf = [0; 600];
     match read_line(&mut papers.report, &mut buf) {
         LineRead::End => papers.end(SideVerdict::StoppedInOwn(number)),
-        LineRead::Line(_, _) | LineRead::Long => papers.end(SideVerdict::PastReach(number)),
+        LineRead::Line(_, _) => papers.end(SideVerdict::PastReach(number)),
+        LineRead::Long => papers.end(SideVerdict::PastReach(number)),
         LineRead::Fault => papers.end(SideVerdict::Unread(Input::Report)),
     }
 }
@@ -129,6 +136,8 @@ fn step_open<R: Source>(
     ensures unstopped { (n : ℕ) → papers.new.verdict ≢ Verdict.Stopped n }
     ensures in_own { (n : ℕ) → papers.new.verdict ≡ Verdict.StoppedInOwn n
         → AtEachSeen (audit_of auditor.old) (λ τ H. StepLeft τ (place H (left_of rates.now)) event.now (audit_of auditor.new)) }
+    ensures stops { AtEachSeen (audit_of auditor.old) (λ τ H. (K : Ledger) → LeftByStep τ (place H (left_of rates.now)) event.now K
+        → ((papers.new.verdict ≡ Verdict.StoppedInOwn number) × SeesBetween (audit_of auditor.new) K) ⊎ IsCutShort papers.new.verdict) }
     ensures reach { papers.new.reach ≡ papers.old.reach }
 {
     histories();
@@ -137,9 +146,14 @@ fn step_open<R: Source>(
             papers.transcript.step_begun(event, &[]);
             papers.end(SideVerdict::StoppedInOwn(number));
         }
-        // The run was stopped before it.
-        Err(Miss::Forged) => papers.end(SideVerdict::StoppedInOwn(number)),
-        Err(why) => miss(papers, number, why),
+        Err(why) => {
+            if why.is_forged() {
+                // The run was stopped before it.
+                papers.end(SideVerdict::StoppedInOwn(number));
+            } else {
+                miss(papers, number, why);
+            }
+        }
     }
 }
 
@@ -166,8 +180,13 @@ fn step_failed<R: Source, D: TracedExtension>(
     ensures asked { (n : ℕ) → papers.new.verdict ≡ Verdict.StoppedInOwn n → AtEachSeen (audit_of auditor.old) (λ τ H. AskedOne ⟦<D as Extension>⟧ τ
         event.now (world (place H (left_of rates.old)) desk.old) (audit_of auditor.new) (left_of rates.new) desk.new TheNext.Say) }
     ensures cut { (n : ℕ) → papers.new.verdict ≡ Verdict.StoppedInOwn n → IsText prefix.now → IsCutOf prefix.now (D.texts desk.new) }
+    ensures stops { AtEachSeen (audit_of auditor.old) (λ τ H. (mid : World Place D.View) (line : List ℕ)
+        → FailsAt D.model D.Fails τ (world (place H (left_of rates.old)) (D.view desk.old)) mid event.now step line → IsPrefixOf prefix.now line
+        → ((papers.new.verdict ≡ Verdict.StoppedInOwn number) × SeesBetween (audit_of auditor.new) mid.scene.ledger
+        × D.model.Alike (D.view desk.new) mid.desk) ⊎ IsCutShort papers.new.verdict) }
     ensures reach { papers.new.reach ≡ papers.old.reach }
 {
+    D::laws();
     let Some(failure) = D::failure_in(step, prefix) else {
         return papers.end(SideVerdict::Wrong(number));
     };
@@ -208,8 +227,12 @@ fn own_reached<R: Source, D: TracedExtension>(
     ensures unstopped { (n : ℕ) → papers.new.verdict ≢ Verdict.Stopped n }
     ensures in_own { (n : ℕ) → papers.new.verdict ≡ Verdict.StoppedInOwn n → IsText prefix.now → EndsInOwn ⟦<D as Extension>⟧ (audit_of auditor.old)
         (left_of rates.old) desk.old first prefix.now (audit_of auditor.new) desk.new }
+    ensures stops { IsOneLine prefix.now → AtEachSeen (audit_of auditor.old) (λ τ H. EachOwnLeft D.model τ (place H (left_of rates.old))
+        (D.view desk.old) first prefix.now (Some (reached number steps))
+        (TellsOwnStop D.model papers.new.reach papers.new.verdict (audit_of auditor.new) (D.view desk.new))) }
     ensures reach { papers.new.reach ≡ papers.old.reach }
 {
+    D::laws();
     let sent = auditor.message_count();
     let transcript = &mut papers.transcript;
     let verdict = SideVerdict::StoppedInOwn(number);
@@ -251,6 +274,7 @@ pub(crate) fn own_begun<R: Source, D: TracedExtension>(
     requires may { MayAsk first (D.left desk.old) }
     requires ready { IsReady (audit_of auditor.old) }
     requires few { length (audit_of auditor.old).messages < MOST_MESSAGES }
+    requires begun { IsUnbegun papers.old.reach number → ⊥ }
     ensures ready { IsReady (audit_of auditor.new) }
     ensures few { length (audit_of auditor.new).messages ≤ length (audit_of auditor.old).messages + 1 }
     ensures kept { keeps (audit_of auditor.new) ≡ keeps (audit_of auditor.old) }
@@ -260,7 +284,7 @@ pub(crate) fn own_begun<R: Source, D: TracedExtension>(
     ensures in_own { (n : ℕ) → papers.new.verdict ≡ Verdict.StoppedInOwn n → IsText prefix.now → EndsInOwn ⟦<D as Extension>⟧ (audit_of auditor.old)
         (left_of rates.old) desk.old first prefix.now (audit_of auditor.new) desk.new }
     ensures stops { IsOneLine prefix.now → AtEachSeen (audit_of auditor.old) (λ τ H. EachOwnLeft D.model τ (place H (left_of rates.old))
-        (D.view desk.old) first prefix.now
+        (D.view desk.old) first prefix.now papers.new.reach
         (TellsOwnStop D.model papers.new.reach papers.new.verdict (audit_of auditor.new) (D.view desk.new))) }
     ensures reach { papers.new.reach ≡ papers.old.reach }
 {

@@ -1,5 +1,5 @@
 //! What an auditor takes for the answer to an event.
-ghost use Rattle.std.specs.Prelude.{◌≡◌, ◌+◌, ◌<◌, ◌≤◌, length, IfOk, IfErr, OnOk, IsOk};
+ghost use Rattle.std.specs.Prelude.{◌≡◌, ◌↔◌, ◌⊎◌, ◌+◌, ◌<◌, ◌≤◌, length, IfOk, IfErr, OnOk, IsOk, IsTrue};
 ghost use Rattle.bench_base.specs.Events.{IsWholeEvent};
 ghost use Rattle.bench.specs.declared.benches.TheConstants.{MOST_MESSAGES};
 ghost use Rattle.ledger_moves.specs.Histories.{Unforged};
@@ -27,6 +27,15 @@ pub(crate) enum Miss {
     Memory,
 }
 
+impl Miss {
+    // Whether the event has forged bytes.
+    pub(crate) fn is_forged(&self) -> bool
+        ensures { IsTrue result ↔ (self.now ≡ TheMiss.Forged) }
+    {
+        matches!(self, Miss::Forged)
+    }
+}
+
 // Whether the event has no forged bytes.
 pub(crate) fn admit(alloc: Global, auditor: &mut Auditor, event: &Event) -> Result<(), Miss>
     requires ready { IsReady (audit_of auditor.old) }
@@ -35,6 +44,7 @@ pub(crate) fn admit(alloc: Global, auditor: &mut Auditor, event: &Event) -> Resu
     ensures same { IsSame (audit_of auditor.old) (audit_of auditor.new) }
     ensures unforged { OnOk result (AtHistory (audit_of auditor.new) (λ H. Unforged event.now H)) }
     ensures missed { IfErr result (λ why. AtHistory (audit_of auditor.old) (λ H. Unforged event.now H → IsOpenMiss why)) }
+    ensures causes { IfErr result (λ why. (why ≡ TheMiss.Forged) ⊎ IsOpenMiss why) }
 {
     if index(alloc, auditor, event).is_err() {
         return Err(Miss::Memory);
@@ -127,6 +137,8 @@ pub(crate) fn take_prefix(
     ensures forged { IfErr result (λ why. why ≡ TheMiss.Forged → IsSame (audit_of auditor.old) (audit_of auditor.new)) }
     ensures missed { IfErr result (λ why. EachReply event.now (left_of rates.now) (audit_of auditor.old) (λ text. IsPrefixOf prefix.now text)
         (IsOpenMiss why)) }
+    ensures only_forged { IfErr result (λ why. AtEachSeen (audit_of auditor.old) (λ τ H. (Unforged event.now H → ⊥)
+        → (why ≡ TheMiss.Forged) ⊎ IsOpenMiss why)) }
     ensures not_unforged { IfErr result (λ why. why ≡ TheMiss.Forged → AtEachSeen (audit_of auditor.old) (λ τ H. Unforged event.now H → ⊥)) }
 {
     match admit(alloc, auditor, event) {

@@ -24,7 +24,7 @@ invariant-loop-next g l = record {
   only : AtEachSeen (audit_of l.fn.auditor) (λ τ H. (mid : World Place g.D.TracedExtension.View) (steps : List StepRecord)
       → Asks (by_model g.D.TracedExtension.model) (MayStep τ) (world (place H (left_of l.fn.rates)) (g.D.TracedExtension.view l.fn.desk)) mid l.fn.first steps Say
       → AreToldOf g.D.TracedExtension.Fails 1 l.fn.line steps → l.next ≢ Stop
-      → LeftToAsk g.D.TracedExtension.view g.D.TracedExtension.model g.D.TracedExtension.Fails τ l.fn.line l.number (audit_of l.auditor) (left_of l.rates) l.desk l.next mid);
+      → LeftToAsk g.D.TracedExtension.view g.D.TracedExtension.model g.D.TracedExtension.Fails τ l.fn.line (length steps) l.number (audit_of l.auditor) (left_of l.rates) l.desk l.next Say mid);
 }
 
 abbrev pub decreases-loop-next : goal.decreases-loop-next

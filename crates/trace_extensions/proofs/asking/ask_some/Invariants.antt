@@ -1,11 +1,15 @@
-use Rattle.std.proofs.Common.{◌≡◌, ◌+◌, ◌≤◌, length}
-use Rattle.line_extensions.specs.Desks.{world}
+use Rattle.std.proofs.Common.{◌≡◌, ◌≢◌, ◌+◌, ◌≤◌, List, [], length}
+use Rattle.line_extensions.specs.Desks.{World, world, Asks}
+use Rattle.line_extensions.specs.Trace.{StepRecord}
+use Rattle.line_extensions.specs.declared.{extension.Next.Next, extension.Next.TheVariants.Stop}
 use Rattle.line_extensions.specs.Wants.{MayAsk}
 use Rattle.trace_bench.specs.Seeing.{IsReady, audit_of, keeps}
-use Rattle.trace_extensions.specs.Places.{place}
+use Rattle.trace_extensions.specs.Models.{by_model, AreToldOf}
+use Rattle.trace_extensions.specs.Places.{Place, place, MayStep}
 use Rattle.trace_extensions.specs.Rates.{left_of}
 use Rattle.trace_extensions.specs.Takes.{AtEachSeen}
 use Rattle.trace_extensions.specs.Worlds.{AskedSo}
+use Rattle.trace_extensions.proofs.OnlySteps.{LeftToAsk}
 use Rattle.trace_extensions.proofs.asking.ask_some.Given as goal
 
 abbrev pub invariant-loop-number : goal.invariant-loop-number
@@ -17,4 +21,8 @@ invariant-loop-number g l = record {
   kept : keeps (audit_of l.auditor) ≡ keeps (audit_of l.fn.auditor);
   asked : AtEachSeen (audit_of l.fn.auditor) (λ τ H. AskedSo g.D.Extension τ (world (place H (left_of l.fn.rates)) l.fn.desk)
       (audit_of l.auditor) (left_of l.rates) l.desk l.fn.first l.next);
+  only : AtEachSeen (audit_of l.fn.auditor) (λ τ H. (mid : World Place g.D.TracedExtension.View) (steps : List StepRecord) (last : Next)
+      → Asks (by_model g.D.TracedExtension.model) (MayStep τ) (world (place H (left_of l.fn.rates)) (g.D.TracedExtension.view l.fn.desk)) mid l.fn.first steps last
+      → AreToldOf g.D.TracedExtension.Fails 1 [] steps → length steps ≡ l.fn.count → l.next ≢ Stop
+      → LeftToAsk g.D.TracedExtension.view g.D.TracedExtension.model g.D.TracedExtension.Fails τ [] l.fn.count l.number (audit_of l.auditor) (left_of l.rates) l.desk l.next last mid);
 }

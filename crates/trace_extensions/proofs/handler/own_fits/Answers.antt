@@ -31,13 +31,13 @@ returns-in-Ok-Say-clause-texts g c = λ fits line. c.answer_fits-fits.ensures.te
 pub returns-in-Err-clause-stops : goal.returns-in-Err-clause-stops
 returns-in-Err-clause-stops g c = λ τ H texts history sees told one report v line K kept begins goes stop.
     let r = first_read g.D.TracedExtension.model c.laws.ensures.determined c.laws.ensures.alike g.D.TracedExtension.Fails (λ τ old new own steps did. c.laws.ensures.tells τ old new own steps did) τ (place H (left_of c.args.rates.now)) v
-    (g.D.TracedExtension.view c.args.desk.now) line c.args.answer.now told c.args.first K kept one.one begins stop in
-    inr (λ none. inl (c.miss.ensures.open (c.in-Err.ensures.only τ H texts history sees r.behind r.steps r.asks r.tells)))
+    (g.D.TracedExtension.view c.args.desk.now) line c.args.answer.now told c.args.first K kept one.one begins stop.0 in
+    inr (inl (inl (c.miss.ensures.open (c.in-Err.ensures.only τ H texts history sees r.behind r.steps r.asks r.tells))))
 
 pub returns-in-Ok-Say-clause-stops : goal.returns-in-Ok-Say-clause-stops
 returns-in-Ok-Say-clause-stops g c = λ τ H texts history sees told one report v line K kept begins goes stop.
     let r = first_read g.D.TracedExtension.model c.laws.ensures.determined c.laws.ensures.alike g.D.TracedExtension.Fails (λ τ old new own steps did. c.laws.ensures.tells τ old new own steps did) τ (place H (left_of c.args.rates.now)) v
-    (g.D.TracedExtension.view c.args.desk.now) line c.args.answer.now told c.args.first K kept one.one begins stop in
+    (g.D.TracedExtension.view c.args.desk.now) line c.args.answer.now told c.args.first K kept one.one begins stop.0 in
     let met = (rw c.in-Ok-Say.field-0-is at c.in-Ok-Say.ensures.only) τ H texts history sees r.behind r.steps r.asks r.tells (λ stop. absurd (cc (stop))) in
     let same = c.laws.ensures.modelled.texts c.ask_all.new.desk ∙ ap (λ v. g.D.TracedExtension.model.texts v) (sym met.kept) ∙ r.texts in
     told_if c.answer_fits-fits.result _ _ (λ called. first_told g.D.TracedExtension.model c.laws.ensures.determined c.laws.ensures.alike g.D.TracedExtension.Fails (λ τ old new own steps did. c.laws.ensures.tells τ old new own steps did)

@@ -1,11 +1,16 @@
-use Rattle.std.proofs.Common.{arith, ◌≡◌, ◌-◌, ◌++◌, List, [], ℕ, Bool, true, Option, take, drop, flat_map, refl, sym, subst}
+use Rattle.std.proofs.Common.{arith, ◌≡◌, ◌-◌, ◌++◌, List, [], ℕ, Bool, true, false, Option, None, take, drop, flat_map, refl, sym, subst}
+use Rattle.std.specs.Prelude.{MatchBool}
 use Rattle.std.specs.Io.KnownBytes.{Consumes, IsAtEnd, prepend_known}
 use Rattle.std.proofs.KnownBytes.{Consumes-trans}
 use Rattle.line_runs.specs.Lines.{ended, IsLineIn}
+use Rattle.bench_base.specs.Ledger.{Ledger}
+use Rattle.ledger_moves.specs.Tariffs.{Tariff}
 use Rattle.line_extensions.specs.Desks.{world}
-use Rattle.trace_extensions.specs.Exact.{MayAnswer}
-use Rattle.trace_extensions.specs.FitsStopped.{OwnStopped}
-use Rattle.trace_extensions.specs.Places.{place}
+use Rattle.line_extensions.specs.declared.extension.Next.{Next}
+use Rattle.trace_extensions.specs.declared.papers.Reach.{Reach}
+use Rattle.trace_extensions.specs.Exact.{EachOwnLeft, MayAnswer}
+use Rattle.trace_extensions.specs.Models.{Model}
+use Rattle.trace_extensions.specs.Places.{Place, place}
 use Rattle.trace_extensions.specs.Rates.{left_of}
 use Rattle.trace_extensions.proofs.Compared.{cut_line, no_line}
 use Rattle.trace_extensions.proofs.Cuts.{long_front, none_left, whole_line, within_line}
@@ -99,31 +104,43 @@ returns-in-Line-default-true-clause-texts g c = λ fits.
     let read = c.in-Line-default-true.ensures.taken in
     c.own_fits.ensures.texts fits (record { one = read.2.1; short = take_short c.in-Line-default-true.len c.read_line.new.buf read.2.0 })
 
+-- by whether the run goes on
+by_goes_on : {V : Type 0} (m : Model V) (τ : Tariff) (scene : Place) (desk : V) (first : Next) (told : List ℕ) (reach : Option Reach) (b : Bool) (Q : Ledger → V → Type 0)
+    → EachOwnLeft m τ scene desk first told None (λ K kept. MatchBool b ⊥ (Q K kept)) → MatchBool b (EachOwnLeft m τ scene desk first told None (λ K kept. ⊥)) (EachOwnLeft m τ scene desk first told reach Q)
+by_goes_on m τ scene desk first told reach true Q all = all
+by_goes_on m τ scene desk first told reach false Q all = λ v line K kept begins goes stop. all v line K kept begins goes (stop.0, tt)
+
+-- a stop that agrees, where the bytes that were written are these
+agreed_bytes : {V : Type 0} (m : Model V) (τ : Tariff) (scene : Place) (desk : V) (first : Next) (told bytes : List ℕ) (reach : Option Reach) (Q : Ledger → V → Type 0) → told ≡ bytes
+    → EachOwnLeft m τ scene desk first bytes reach Q → EachOwnLeft m τ scene desk first told reach Q
+agreed_bytes m τ scene desk first told bytes reach Q same each = subst (λ (l : List ℕ). EachOwnLeft m τ scene desk first l reach Q) (sym same) each
+
 pub returns-in-Line-default-true-clause-stops : goal.returns-in-Line-default-true-clause-stops
-returns-in-Line-default-true-clause-stops g c = λ τ H texts history sees told report v line K kept begins goes stop.
+returns-in-Line-default-true-clause-stops g c = λ τ H texts history sees told report.
     let read = c.in-Line-default-true.ensures.taken in
     let first = take c.in-Line-default-true.len c.read_line.new.buf in
     let w = whole_line _ _ told report c.in-Line-default-true.field-1 first read.0 c.in-Line-default-true.field-1-test read.2.2 read.1 in
-    c.own_fits.ensures.stops τ H texts history sees w.0 (record { one = read.2.1; short = take_short c.in-Line-default-true.len c.read_line.new.buf read.2.0 }) w.1 v line K kept begins goes
-    (subst (λ (l : List ℕ). OwnStopped g.D.TracedExtension.model τ (world (place H (left_of c.args.rates.now)) v) line l K kept) w.2 stop)
+    by_goes_on g.D.TracedExtension.model τ (place H (left_of c.args.rates.now)) (g.D.TracedExtension.view c.args.desk.now) c.args.first told _ c.own_fits.result _
+    (agreed_bytes g.D.TracedExtension.model τ (place H (left_of c.args.rates.now)) (g.D.TracedExtension.view c.args.desk.now) c.args.first told (ended first ++ w.0) None _ w.2
+    (c.own_fits.ensures.stops τ H texts history sees w.0 (record { one = read.2.1; short = take_short c.in-Line-default-true.len c.read_line.new.buf read.2.0 }) w.1))
 
 pub returns-in-Line-default-false-clause-stops : goal.returns-in-Line-default-false-clause-stops
-returns-in-Line-default-false-clause-stops g c = λ τ H texts history sees told report v line K kept begins goes stop.
+returns-in-Line-default-false-clause-stops g c = λ τ H texts history sees told report.
     let read = c.in-Line-default-false.ensures.taken in
     let first = take c.in-Line-default-false.len c.read_line.new.buf in
     let same = within_line _ _ told report c.in-Line-default-false.field-1 first read.0 c.in-Line-default-false.field-1-test read.2.2 read.1 in
-    c.own_begun.ensures.stops read.2.1 τ H texts history sees v line K kept begins goes
-    (subst (λ (l : List ℕ). OwnStopped g.D.TracedExtension.model τ (world (place H (left_of c.args.rates.now)) v) line l K kept) same stop)
+    agreed_bytes g.D.TracedExtension.model τ (place H (left_of c.args.rates.now)) (g.D.TracedExtension.view c.args.desk.now) c.args.first told first _ _ same
+    (c.own_begun.ensures.stops read.2.1 τ H texts history sees)
 
 pub returns-in-End-clause-stops : goal.returns-in-End-clause-stops
-returns-in-End-clause-stops g c = λ τ H texts history sees told report v line K kept begins goes stop.
+returns-in-End-clause-stops g c = λ τ H texts history sees told report.
     let read = c.in-End.ensures.taken in
     let same = none_left _ _ told report read.0 read.2.0 read.2.1 read.1 in
-    c.own_begun-in-End.ensures.stops tt τ H texts history sees v line K kept begins goes
-    (subst (λ (l : List ℕ). OwnStopped g.D.TracedExtension.model τ (world (place H (left_of c.args.rates.now)) v) line l K kept) same stop)
+    agreed_bytes g.D.TracedExtension.model τ (place H (left_of c.args.rates.now)) (g.D.TracedExtension.view c.args.desk.now) c.args.first told [] _ _ same
+    (c.own_begun-in-End.ensures.stops tt τ H texts history sees)
 
 pub returns-in-Long-clause-stops : goal.returns-in-Long-clause-stops
 returns-in-Long-clause-stops g c = λ τ H texts history sees told report v line K kept begins goes stop.
     let read = c.in-Long.ensures.taken in
     let w = long_front _ _ told report read.0 read.1 in
-    absurd (no_long g.D.TracedExtension.model τ (place H (left_of c.args.rates.now)) v line told read.0 w.0 K kept w.1 read.2.0 read.2.1 stop)
+    absurd (no_long g.D.TracedExtension.model τ (place H (left_of c.args.rates.now)) v line told read.0 w.0 K kept w.1 read.2.0 read.2.1 stop.0)

@@ -30,3 +30,10 @@ returns-in-Err-Wrong-clause-missed c = λ τ H texts history sees d event may be
 
 pub returns-in-Err-clause-not_unforged : goal.returns-in-Err-clause-not_unforged
 returns-in-Err-clause-not_unforged c = λ forged τ H texts history sees free. subst (λ (why : Miss). IsOpenMiss why) forged (c.in-Err.ensures.missed τ H history sees free)
+
+pub returns-in-Err-clause-only_forged : goal.returns-in-Err-clause-only_forged
+returns-in-Err-clause-only_forged c = λ τ H texts history sees never. c.in-Err.ensures.causes
+
+pub returns-in-Err-Wrong-clause-only_forged : goal.returns-in-Err-Wrong-clause-only_forged
+returns-in-Err-Wrong-clause-only_forged c = λ τ H texts history sees never.
+    absurd (never (c.in-Ok.ensures.unforged τ H history (same_sees (audit_of c.args.auditor.now) (audit_of c.admit.new.auditor) c.admit.ensures.same H sees)))

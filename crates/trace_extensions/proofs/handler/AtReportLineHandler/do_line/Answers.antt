@@ -6,7 +6,7 @@ use Rattle.script_text.specs.Grammar.{Spells}
 use Rattle.script_words.specs.declared.word.LineFault.{LineFault}
 use Rattle.line_extensions.specs.Events.{IsLineOf}
 use Rattle.trace_bench.specs.Seeing.{audit_of}
-use Rattle.trace_extensions.specs.Fits.{IsCutShort, IsOpen}
+use Rattle.trace_extensions.specs.Fits.{IsCutShort, IsOpen, IsUnbegun}
 use Rattle.trace_extensions.specs.Rates.{left_of}
 use Rattle.trace_extensions.proofs.Lined.{skipped, ends_without, untaken, unbegun, answered, own_stopped, heard}
 use Rattle.trace_extensions.proofs.handler.AtReportLineHandler.do_line.Goals as goal
@@ -19,8 +19,12 @@ pub returns-then-is_skipped-clause-done : goal.returns-then-is_skipped-clause-do
 returns-then-is_skipped-clause-done g c = skipped g.D.Extension g.D.TracedExtension.view g.D.TracedExtension.model c.laws.ensures.modelled c.laws.ensures.determined c.laws.ensures.alike g.met.D.Extension.alone c.args.number c.args.line.now _ (g.K.Sink.taken c.args._report.now) (c.is_skipped.ensures.0 c.if-is_skipped.true)
 
 pub returns-then-is_unbegun-clause-done : goal.returns-then-is_unbegun-clause-done
-returns-then-is_unbegun-clause-done g c = unbegun g.D.Extension g.D.TracedExtension.view g.D.TracedExtension.model c.laws.ensures.modelled c.laws.ensures.determined c.laws.ensures.alike g.met.D.Extension.alone c.args.number c.args.line.now _ _ (g.K.Sink.taken c.args._report.now) refl refl c.own_unbegun.ensures.reach
-    (subst (λ r. IsOpen r c.own_unbegun.new.papers.verdict) (sym c.own_unbegun.ensures.reach) (c.own_unbegun.ensures.open (c.is_unbegun.ensures.0 c.if-is_unbegun.true))) c.own_unbegun.ensures.unstopped c.own_unbegun.ensures.in_own
+returns-then-is_unbegun-clause-done g c =
+    let is = c.is_unbegun.ensures.0 c.if-is_unbegun.true in
+    unbegun g.D.Extension g.D.TracedExtension.view g.D.TracedExtension.model c.laws.ensures.modelled c.laws.ensures.determined c.laws.ensures.alike g.met.D.Extension.alone c.args.number c.args.line.now _ _ (g.K.Sink.taken c.args._report.now) g.D.TracedExtension.Fails
+    (λ τ old new own steps did. c.laws.ensures.tells τ old new own steps did) (λ skipped. true≢false (sym (c.is_skipped.ensures.1 skipped) ∙ c.if-is_skipped.false)) refl refl c.own_unbegun.ensures.reach
+    (subst (λ r. IsUnbegun r c.args.number) (sym c.own_unbegun.ensures.reach) is)
+    (subst (λ r. IsOpen r c.own_unbegun.new.papers.verdict) (sym c.own_unbegun.ensures.reach) (c.own_unbegun.ensures.open is)) c.own_unbegun.ensures.only c.own_unbegun.ensures.stops c.own_unbegun.ensures.unstopped c.own_unbegun.ensures.in_own
 
 pub returns-in-Err-clause-done : goal.returns-in-Err-clause-done
 returns-in-Err-clause-done g c = ends_without g.D.Extension g.D.TracedExtension.view g.D.TracedExtension.model c.laws.ensures.modelled c.laws.ensures.determined c.laws.ensures.alike g.met.D.Extension.alone c.args.number c.args.line.now _ _ (g.K.Sink.taken c.args._report.now) refl c.end.ensures.reach (subst (λ v. IsCutShort v) (sym c.end.ensures.verdict) tt) (λ n is. absurd (cc (c.end.ensures.verdict, is)))
@@ -32,7 +36,7 @@ returns-then-own_line-clause-done g c =
     answered g.D.Extension g.D.TracedExtension.view g.D.TracedExtension.model c.laws.ensures.modelled c.laws.ensures.determined c.laws.ensures.alike g.met.D.Extension.alone c.args.number c.args.line.now (audit_of c.args.auditor.now) (audit_of c.own_line.new.auditor) (left_of c.args.rates.now) (left_of c.own_line.new.rates) c.args.desk.now
     c.begin-begun.new.self c.own_line.new.desk _ _ _ _ _ _ (g.K.Sink.taken c.args._report.now) w.0 c.in-Ok-Some.first g.D.TracedExtension.Fails (λ τ old new own steps did. c.laws.ensures.tells τ old new own steps did) c.own_line.ensures.kept w.1 w.2 (λ is. true≢false (sym (c.is_stop.ensures.1 is) ∙ c.if-is_stop.false)) c.own_line.ensures.reach
     (λ τ H texts history sees new text more told steps may next. rw c.if-own_line.true at c.own_line.ensures.only τ H texts history sees new text more told steps may next)
-    (λ τ H texts history sees told report v x L kept begins goes stop. rw c.if-own_line.true at c.own_line.ensures.stops τ H texts history sees told report v x L kept begins goes stop) (c.own_line.ensures.asked c.if-own_line.true)
+    (λ τ H texts history sees told report. rw c.if-own_line.true at c.own_line.ensures.stops τ H texts history sees told report) (c.own_line.ensures.asked c.if-own_line.true)
     (c.own_line.ensures.fits c.if-own_line.true) (c.own_line.ensures.texts c.if-own_line.true)
 
 pub returns-else-own_line-clause-done : goal.returns-else-own_line-clause-done
@@ -41,7 +45,7 @@ returns-else-own_line-clause-done g c =
     own_stopped g.D.Extension g.D.TracedExtension.view g.D.TracedExtension.model c.laws.ensures.modelled c.laws.ensures.determined c.laws.ensures.alike g.met.D.Extension.alone c.args.number c.args.line.now (audit_of c.args.auditor.now) (audit_of c.own_line.new.auditor) (left_of c.args.rates.now) (left_of c.own_line.new.rates) c.args.desk.now
     c.begin-begun.new.self c.own_line.new.desk _ _ _ _ _ _ (g.K.Sink.taken c.args._report.now) w.0 c.in-Ok-Some.first g.D.TracedExtension.Fails (λ τ old new own steps did. c.laws.ensures.tells τ old new own steps did) c.own_line.ensures.kept w.1 w.2 (λ is. true≢false (sym (c.is_stop.ensures.1 is) ∙ c.if-is_stop.false)) c.own_line.ensures.reach
     (λ τ H texts history sees new text more told steps may next. rw c.if-own_line.false at c.own_line.ensures.only τ H texts history sees new text more told steps may next)
-    (λ τ H texts history sees told report v x L kept begins goes stop. rw c.if-own_line.false at c.own_line.ensures.stops τ H texts history sees told report v x L kept begins goes stop)
+    (λ τ H texts history sees told report. rw c.if-own_line.false at c.own_line.ensures.stops τ H texts history sees told report)
     (c.own_line.ensures.stopped c.if-own_line.false) (c.own_line.ensures.in_own c.if-own_line.false)
 
 pub returns-in-Some-clause-done : goal.returns-in-Some-clause-done

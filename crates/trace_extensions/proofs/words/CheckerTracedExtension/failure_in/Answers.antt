@@ -5,9 +5,8 @@ use Rattle.bench_base.specs.declared.{words.Node.TheVariants.Verifier, events.Re
 use Rattle.bench_base.specs.declared.events.Reply.TheVariants as r
 use Rattle.script_text.specs.Texts.{text_of}
 use Rattle.mail_manifest.specs.Texts.{no_piece_text}
-use Rattle.trace_bench.specs.Prefixes.{IsFailure}
 use Rattle.trace_bench.specs.Stopping.{IsPrefixOf}
-use Rattle.trace_extensions.specs.ManifestModel.{ManifestFails, no_piece_front}
+use Rattle.trace_extensions.specs.ManifestModel.{no_piece_front}
 use Rattle.trace_extensions.proofs.Compared.{same_rest}
 use Rattle.trace_extensions.proofs.ManifestModel.{front_text}
 use Rattle.trace_extensions.proofs.Settled.{fronts, if_none, if_some}
