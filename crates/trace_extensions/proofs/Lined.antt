@@ -1,5 +1,5 @@
 -- What became of one line of an audit.
-use Rattle.std.proofs.Common.{◌≡◌, ◌≢◌, ◌⊎◌, inl, inr, ℕ, List, [], ◌∷◌, ◌++◌, flat_map, append_assoc, Option, Some, None, IfNone, IfSome, refl, sym, ap, ◌∙◌, subst}
+use Rattle.std.proofs.Common.{◌≡◌, ◌≢◌, ◌⊎◌, inl, inr, ℕ, ◌+◌, ◌<◌, ◌^◌, List, [], ◌∷◌, ◌++◌, flat_map, append_assoc, Option, Some, None, IfNone, IfSome, refl, sym, ap, ◌∙◌, subst}
 use Rattle.std.proofs.KnownBytes.{Appends-nil, Consumes-nil}
 use Rattle.std.specs.Io.KnownBytes.{Consumes, IsAtEnd}
 use Rattle.std.specs.List.{AllByRecursion}
@@ -32,7 +32,7 @@ use Rattle.trace_runs.specs.Runs.{StopLeaves}
 use Rattle.trace_runs.proofs.Alike.{between}
 use Rattle.trace_extensions.specs.Exact.{EachReply, HasNext, MayBe, EachMayBe, MayAnswer, IsMet, EachLeft, EachOwnLeft, NoStop, TellsStops}
 use Rattle.trace_extensions.specs.Fits.{EndsEarly, IsCutShort, IsOpen, IsText, IsUnbegun}
-use Rattle.trace_extensions.specs.FitsStopped.{AgreedStop, ComesTo, IsCutOf, at_event, before_it, EventStopped, OwnStopped, Unbegun, not_begun, all_of_it, part_of_it, TellsStop, TellsOwnStop}
+use Rattle.trace_extensions.specs.FitsStopped.{AgreedStop, ComesTo, IsCutOf, IsNumbered, at_event, before_it, EventStopped, OwnStopped, Unbegun, not_begun, all_of_it, part_of_it, TellsStop, TellsOwnStop}
 use Rattle.trace_extensions.specs.Models.{Model, by_model, AreAlike, IsModelOf, IsDetermined, TellsFailures}
 use Rattle.trace_extensions.specs.Places.{Place, place, turn_at, MayStep}
 use Rattle.trace_extensions.specs.Steps.{AuditWorld, audit_world, IsStop, IsKnown, Passed, Heard, Own, Begun, Ended, audit_lines}
@@ -52,6 +52,14 @@ first_byte report (b ∷ line) told is = (b, ended line ++ told, is)
 neither : (v : SideVerdict) → ((n : ℕ) → v ≡ verdict.Stopped n → ⊥) → ((n : ℕ) → v ≡ verdict.StoppedInOwn n → ⊥) → ((n : ℕ) × ((v ≡ verdict.Stopped n) ⊎ (v ≡ verdict.StoppedInOwn n))) → ⊥
 neither v none own (n, inl is) = none n is
 neither v none own (n, inr is) = own n is
+
+-- the line that is named, if a stop is said
+numbered_by : (v : SideVerdict) (number : ℕ) → ((n : ℕ) → v ≡ verdict.Stopped n → n ≡ number) → ((n : ℕ) → v ≡ verdict.StoppedInOwn n → n ≡ number) → IsNumbered v number
+numbered_by v number one two n (inl is) = one n is
+numbered_by v number one two n (inr is) = two n is
+
+never_numbered : (v : SideVerdict) (number : ℕ) → ((n : ℕ) → v ≡ verdict.Stopped n → ⊥) → ((n : ℕ) → v ≡ verdict.StoppedInOwn n → ⊥) → IsNumbered v number
+never_numbered v number none own = numbered_by v number (λ n is. absurd (none n is)) (λ n is. absurd (own n is))
 
 -- whether the verdict is a stop, with what may have been done told
 is_stop : (v : SideVerdict) → ((n : ℕ) × ((v ≡ verdict.Stopped n) ⊎ (v ≡ verdict.StoppedInOwn n))) ⊎ (((n : ℕ) × ((v ≡ verdict.Stopped n) ⊎ (v ≡ verdict.StoppedInOwn n))) → ⊥)
@@ -116,15 +124,20 @@ module _ {K T : Type 0} (k : Ghosts K T) {V : Type 0} (view : K → V) (m : Mode
   abbrev pub Tells : (ℕ → List ℕ → Reply → Type 0) → Type 0
   Tells Fails = (τ : Tariff) (old new : World Place V) (own : List ℕ) (steps : List StepRecord) → DidOwn (by_model m) (MayStep τ) old new own steps Say → TellsFailures Fails steps (m.texts new.desk)
 
-  pub skipped : (w : AuditWorld K) (taken : Option (List ℕ)) → IsSkipped line → End None w w taken taken
-  skipped w taken is = LineEnd.did (record {
+  -- one line more was judged, as long as there is a number for it
+  abbrev pub OneMore : ℕ → ℕ → Type 0
+  OneMore before now = before + 1 < 2 ^ 32 → now ≡ before + 1
+
+  pub skipped : (w : AuditWorld K) (now : ℕ) (taken : Option (List ℕ)) → OneMore w.line now → IsSkipped line → End None w (record w { line = now }) taken taken
+  skipped w now taken one is = LineEnd.did (record {
     trace_step = Passed line;
     line_is = refl;
     is = is;
     did = record {
       kept = refl;
       reach = refl;
-      took = (w, Consumes-nil w.report, refl);
+      lines = one;
+      took = (record w { line = now }, Consumes-nil w.report, refl);
       may = λ τ H texts history sees. record { history = history; sees = sees; left = refl; desk = refl };
       only = λ τ H texts history sees. (
         skipped_stops τ (world (place H w.rates) (view w.desk)) w.report is,
@@ -150,9 +163,9 @@ module _ {K T : Type 0} (k : Ghosts K T) {V : Type 0} (view : K → V) (m : Mode
   Told old new = AtEachSeen old.audit (λ τ H. TellsStops m τ (world (place H old.rates) (view old.desk)) line old.report view new)
 
   -- the audit ended
-  pub ends : (old new : AuditWorld K) (taken : Option (List ℕ)) → keeps new.audit ≡ keeps old.audit → new.reach ≡ old.reach → IsOpen new.reach new.verdict ⊎ IsKnown k.IsOwn line → Missed old new → Told old new
+  pub ends : (old new : AuditWorld K) (taken : Option (List ℕ)) → OneMore old.line new.line → IsNumbered new.verdict new.line → keeps new.audit ≡ keeps old.audit → new.reach ≡ old.reach → IsOpen new.reach new.verdict ⊎ IsKnown k.IsOwn line → Missed old new → Told old new
       → (IsStop new → EndsAt old new) → End (Some Stopped) old new taken taken
-  ends old new taken kept reach known missed told stops = by (is_stop new.verdict)
+  ends old new taken one numbered kept reach known missed told stops = by (is_stop new.verdict)
     where
       by : ((n : ℕ) × ((new.verdict ≡ verdict.Stopped n) ⊎ (new.verdict ≡ verdict.StoppedInOwn n))) ⊎ (((n : ℕ) × ((new.verdict ≡ verdict.Stopped n) ⊎ (new.verdict ≡ verdict.StoppedInOwn n))) → ⊥)
           → End (Some Stopped) old new taken taken
@@ -161,10 +174,11 @@ module _ {K T : Type 0} (k : Ghosts K T) {V : Type 0} (view : K → V) (m : Mode
           LineEnd.did (record {
             trace_step = Begun line at.0 new;
             line_is = refl;
-            is = known;
+            is = (numbered, known);
             did = record {
               kept = kept;
               reach = reach;
+              lines = one;
               took = (at.1, at.2, refl);
               may = λ τ H texts history sees. let left = at.3 τ H texts history sees in (history, left.0, left.1);
               only = λ τ H texts history sees. (told τ H texts history sees, missed τ H texts history sees);
@@ -178,6 +192,7 @@ module _ {K T : Type 0} (k : Ghosts K T) {V : Type 0} (view : K → V) (m : Mode
         did = record {
           kept = kept;
           reach = reach;
+          lines = one;
           took = refl;
           may = λ τ H texts history sees. tt;
           only = λ τ H texts history sees. (told τ H texts history sees, missed τ H texts history sees);
@@ -193,21 +208,21 @@ module _ {K T : Type 0} (k : Ghosts K T) {V : Type 0} (view : K → V) (m : Mode
   }
 
   -- no stop is said
-  pub ends_without : (old new : AuditWorld K) (taken : Option (List ℕ)) → keeps new.audit ≡ keeps old.audit → new.reach ≡ old.reach → IsCutShort new.verdict → ((n : ℕ) → new.verdict ≡ verdict.Stopped n → ⊥)
+  pub ends_without : (old new : AuditWorld K) (taken : Option (List ℕ)) → OneMore old.line new.line → keeps new.audit ≡ keeps old.audit → new.reach ≡ old.reach → IsCutShort new.verdict → ((n : ℕ) → new.verdict ≡ verdict.Stopped n → ⊥)
       → ((n : ℕ) → new.verdict ≡ verdict.StoppedInOwn n → ⊥) → End (Some Stopped) old new taken taken
-  ends_without old new taken kept reach cut none own = ends old new taken kept reach (inl (inl cut)) (λ τ H texts history sees mid told b may. inl cut) (cut_told old new cut) by
+  ends_without old new taken one kept reach cut none own = ends old new taken one (never_numbered new.verdict new.line none own) kept reach (inl (inl cut)) (λ τ H texts history sees mid told b may. inl cut) (cut_told old new cut) by
     where
       by : IsStop new → EndsAt old new
       by (n, inl is) = absurd (none n is)
       by (n, inr is) = absurd (own n is)
 
   -- the answer to an event was not taken
-  pub untaken : (old new : AuditWorld K) (taken : Option (List ℕ)) (e : Event) (number : ℕ) → keeps new.audit ≡ keeps old.audit → new.reach ≡ old.reach → IsLineOf e line → k.Passes old.desk line → new.desk ≡ old.desk
+  pub untaken : (old new : AuditWorld K) (taken : Option (List ℕ)) (e : Event) (number : ℕ) → OneMore old.line new.line → ((n : ℕ) → new.verdict ≡ verdict.Stopped n → n ≡ new.line) → keeps new.audit ≡ keeps old.audit → new.reach ≡ old.reach → IsLineOf e line → k.Passes old.desk line → new.desk ≡ old.desk
       → ((n : ℕ) → new.verdict ≡ verdict.Stopped n → EndsWithin e old.rates old.audit new.audit old.report new.report) → ((n : ℕ) → new.verdict ≡ verdict.StoppedInOwn n → ⊥)
       → EachReply e old.rates old.audit (λ text. (told : List ℕ) × HasNext old.report text told) (IsCutShort new.verdict)
       → ((told : List ℕ) → old.report ≡ Some told → EachLeft e old.rates told old.audit (λ L. ((new.verdict ≡ verdict.Stopped number) × SeesBetween new.audit L) ⊎ IsCutShort new.verdict))
       → End (Some Stopped) old new taken taken
-  untaken old new taken e number kept reach is passes same within own missed stops = ends old new taken kept reach (inr (inl (e, is)))
+  untaken old new taken e number one named kept reach is passes same within own missed stops = ends old new taken one (numbered_by new.verdict new.line named (λ n is. absurd (own n is))) kept reach (inr (inl (e, is)))
       (λ τ H texts history sees mid told b may.
       let so = if_passed k view m modelled det alone τ (world (place H old.rates) (view old.desk)) mid line old.report told e is (modelled.passes old.desk line passes) b may in
       inl (missed τ H texts history sees so.d so.event so.did.did.may (told, so.next))) tells by
@@ -259,9 +274,9 @@ module _ {K T : Type 0} (k : Ghosts K T) {V : Type 0} (view : K → V) (m : Mode
   some_text Fails tells some τ at mid report told (Broken x own steps) may = absurd (may.whole tt)
 
   -- a run of which nothing was begun there, as the reach says
-  none_begun_so : (reach : Option Reach) → IsUnbegun reach number → (τ : Tariff) (at : World Place V) (told : List ℕ) (L : Ledger) (kept : V) → AgreedStop m τ at line told L kept reach → Unbegun m τ at line told L kept
-  none_begun_so None is τ at told L kept stop = absurd is
-  none_begun_so (Some reach) is τ at told L kept (stop, agrees) = by stop (subst (λ (s : Option ℕ). ComesTo m τ at line told L kept s stop) is.1 agrees)
+  none_begun_so : (here : ℕ) (reach : Option Reach) → IsUnbegun reach here → (τ : Tariff) (at : World Place V) (told : List ℕ) (L : Ledger) (kept : V) → AgreedStop m τ at line told L kept reach → Unbegun m τ at line told L kept
+  none_begun_so here None is τ at told L kept stop = absurd is
+  none_begun_so here (Some reach) is τ at told L kept (stop, agrees) = by stop (subst (λ (s : Option ℕ). ComesTo m τ at line told L kept s stop) is.1 agrees)
     where
       by : (stop : OwnStopped m τ at line told L kept) → ComesTo m τ at line told L kept None stop → Unbegun m τ at line told L kept
       by (not_begun own x) comes = record { silent = x.silent; ledger = x.ledger; stays = x.stays }
@@ -269,18 +284,18 @@ module _ {K T : Type 0} (k : Ghosts K T) {V : Type 0} (view : K → V) (m : Mode
       by (part_of_it own x) comes = absurd comes
 
   -- nothing of the line was begun
-  pub unbegun : (old new : AuditWorld K) (taken : Option (List ℕ)) (Fails : ℕ → List ℕ → Reply → Type 0) → Tells Fails → (IsSkipped line → ⊥) → new.audit ≡ old.audit → new.desk ≡ old.desk → new.reach ≡ old.reach
-      → IsUnbegun new.reach number → IsOpen new.reach new.verdict → ((byte : ℕ) (more : List ℕ) → old.report ≡ Some (byte ∷ more) → (new.verdict ≡ verdict.PastReach number) ⊎ IsCutShort new.verdict)
-      → (old.report ≡ Some [] → (new.verdict ≡ verdict.StoppedInOwn number) ⊎ IsCutShort new.verdict) → ((n : ℕ) → new.verdict ≡ verdict.Stopped n → ⊥)
+  pub unbegun : (old new : AuditWorld K) (taken : Option (List ℕ)) (here : ℕ) (Fails : ℕ → List ℕ → Reply → Type 0) → Tells Fails → (IsSkipped line → ⊥) → OneMore old.line new.line → ((n : ℕ) → new.verdict ≡ verdict.StoppedInOwn n → n ≡ new.line) → new.audit ≡ old.audit → new.desk ≡ old.desk → new.reach ≡ old.reach
+      → IsUnbegun new.reach here → IsOpen new.reach new.verdict → ((byte : ℕ) (more : List ℕ) → old.report ≡ Some (byte ∷ more) → (new.verdict ≡ verdict.PastReach here) ⊎ IsCutShort new.verdict)
+      → (old.report ≡ Some [] → (new.verdict ≡ verdict.StoppedInOwn here) ⊎ IsCutShort new.verdict) → ((n : ℕ) → new.verdict ≡ verdict.Stopped n → ⊥)
       → ((n : ℕ) → new.verdict ≡ verdict.StoppedInOwn n → Consumes old.report new.report [] × IsAtEnd new.report) → End (Some Stopped) old new taken taken
-  unbegun old new taken Fails tells some audit same reach none_of_it is_open past stops none own =
-      ends old new taken (ap (λ (a : Audit). keeps a) audit) reach (inl is_open) early told by
+  unbegun old new taken here Fails tells some one named audit same reach none_of_it is_open past stops none own =
+      ends old new taken one (numbered_by new.verdict new.line (λ n is. absurd (none n is)) named) (ap (λ (a : Audit). keeps a) audit) reach (inl is_open) early told by
     where
       early : Missed old new
       early = λ τ H texts history sees mid told b may.
           let w = some_text Fails tells some τ (world (place H old.rates) (view old.desk)) mid old.report told b may in
           elim (past w.0 w.1 w.2) [
-            | inl is ↦ inr (number, none_of_it, is)
+            | inl is ↦ inr (here, none_of_it, is)
             | inr cut ↦ inl cut
           ]
 
@@ -288,10 +303,10 @@ module _ {K T : Type 0} (k : Ghosts K T) {V : Type 0} (view : K → V) (m : Mode
       told = λ τ H texts history sees. record {
         event = λ told L kept stop report_is. inr is_open;
         own = λ told L kept stop report_is.
-            let x = none_begun_so new.reach none_of_it τ (world (place H old.rates) (view old.desk)) told L kept stop in
+            let x = none_begun_so here new.reach none_of_it τ (world (place H old.rates) (view old.desk)) told L kept stop in
             elim (stops (report_is ∙ ap (λ (l : List ℕ). Some l) x.silent)) [
               | inl is ↦ inl (
-                (number, inr is),
+                (here, inr is),
                 between new.audit L (subst (λ (X : Ledger). Sees new.audit X) (sym x.ledger) (subst (λ (a : Audit). Sees a H) (sym audit) sees)),
                 subst (λ (v : V). m.Alike (view new.desk) v) (ap (λ (d : K). view d) same ∙ sym x.stays) (alike.same (view new.desk)),
               )
@@ -365,20 +380,21 @@ module _ {K T : Type 0} (k : Ghosts K T) {V : Type 0} (view : K → V) (m : Mode
       (modelled.begins desk mid own line first is begins goes) b may
 
   -- the report ended within the answer to an own line
-  pub own_stopped : (audit0 audit1 : Audit) (left0 left1 : List ℕ) (desk mid desk1 : K) (report0 report1 : Option (List ℕ)) (v0 v1 : SideVerdict) (reach0 reach1 : Option Reach) (taken : Option (List ℕ)) (own : k.Own) (first : Next)
-      → (Fails : ℕ → List ℕ → Reply → Type 0) → Tells Fails → keeps audit1 ≡ keeps audit0 → k.IsOwn own line → k.Begins desk own first mid → first ≢ Stop
+  pub own_stopped : (line0 line1 : ℕ) (audit0 audit1 : Audit) (left0 left1 : List ℕ) (desk mid desk1 : K) (report0 report1 : Option (List ℕ)) (v0 v1 : SideVerdict) (reach0 reach1 : Option Reach) (taken : Option (List ℕ)) (own : k.Own) (first : Next)
+      → (Fails : ℕ → List ℕ → Reply → Type 0) → Tells Fails → OneMore line0 line1 → ((n : ℕ) → v1 ≡ verdict.Stopped n → n ≡ line1) → ((n : ℕ) → v1 ≡ verdict.StoppedInOwn n → n ≡ line1)
+      → keeps audit1 ≡ keeps audit0 → k.IsOwn own line → k.Begins desk own first mid → first ≢ Stop
       → reach1 ≡ reach0 → OwnLeaves Fails audit0 left0 mid first report0 (λ τ new told. IsCutShort v1)
       → StopsLeave audit0 left0 mid first report0 reach1 (TellsOwnStop m reach1 v1 audit1 (view desk1))
       → ((n : ℕ) → v1 ≡ verdict.Stopped n → ReadsStop k view m audit0 left0 mid first report0 audit1 desk1 report1)
       → ((n : ℕ) → v1 ≡ verdict.StoppedInOwn n → ReadsInOwn k audit0 left0 mid first report0 audit1 desk1 report1)
-      → End (Some Stopped) (audit_world audit0 left0 desk report0 v0 reach0) (audit_world audit1 left1 desk1 report1 v1 reach1) taken taken
-  own_stopped audit0 audit1 left0 left1 desk mid desk1 report0 report1 v0 v1 reach0 reach1 taken own first Fails tells kept is begins goes reach leaves stops one two =
-      ends (audit_world audit0 left0 desk report0 v0 reach0) (audit_world audit1 left1 desk1 report1 v1 reach1) taken kept reach (inr (inr (own, is)))
+      → End (Some Stopped) (audit_world audit0 left0 desk report0 v0 reach0 line0) (audit_world audit1 left1 desk1 report1 v1 reach1 line1) taken taken
+  own_stopped line0 line1 audit0 audit1 left0 left1 desk mid desk1 report0 report1 v0 v1 reach0 reach1 taken own first Fails tells more named own_named kept is begins goes reach leaves stops one two =
+      ends (audit_world audit0 left0 desk report0 v0 reach0 line0) (audit_world audit1 left1 desk1 report1 v1 reach1 line1) taken more (numbered_by v1 line1 named own_named) kept reach (inr (inr (own, is)))
       (λ τ H texts history sees new told b may.
       let so = own_may Fails tells τ H left0 desk mid own first is begins goes new report0 told b may in
       inl (leaves τ H texts history sees new so.text so.more told so.steps so.may so.next)) told by
     where
-      told : Told (audit_world audit0 left0 desk report0 v0 reach0) (audit_world audit1 left1 desk1 report1 v1 reach1)
+      told : Told (audit_world audit0 left0 desk report0 v0 reach0 line0) (audit_world audit1 left1 desk1 report1 v1 reach1 line1)
       told = λ τ H texts history sees. record {
         event = λ bytes L kept stop report_is. absurd (begun_not_passed τ (world (place H left0) (view desk)) bytes L kept first (view mid) (modelled.begins desk mid own line first is begins goes) stop);
         own = λ bytes L kept stop report_is. stops τ H texts history sees bytes report_is (view desk) line L kept (modelled.begins desk mid own line first is begins goes) goes stop;
@@ -387,7 +403,7 @@ module _ {K T : Type 0} (k : Ghosts K T) {V : Type 0} (view : K → V) (m : Mode
       left_so : (τ : Tariff) (H : Ledger) (bytes : List ℕ) → LeftSo k τ (world (place H left0) mid) first bytes audit1 desk1 → LeftAt k τ (world (place H left0) desk) line bytes audit1 desk1
       left_so τ H bytes left = own_left τ H left0 desk mid desk1 audit1 own first bytes is begins left
 
-      known : ReadsStop k view m audit0 left0 mid first report0 audit1 desk1 report1 → EndsAt (audit_world audit0 left0 desk report0 v0 reach0) (audit_world audit1 left1 desk1 report1 v1 reach1)
+      known : ReadsStop k view m audit0 left0 mid first report0 audit1 desk1 report1 → EndsAt (audit_world audit0 left0 desk report0 v0 reach0 line0) (audit_world audit1 left1 desk1 report1 v1 reach1 line1)
       known r = (
         r.0,
         r.1,
@@ -399,7 +415,7 @@ module _ {K T : Type 0} (k : Ghosts K T) {V : Type 0} (view : K → V) (m : Mode
             ),
       )
 
-      reached : ReadsInOwn k audit0 left0 mid first report0 audit1 desk1 report1 → EndsAt (audit_world audit0 left0 desk report0 v0 reach0) (audit_world audit1 left1 desk1 report1 v1 reach1)
+      reached : ReadsInOwn k audit0 left0 mid first report0 audit1 desk1 report1 → EndsAt (audit_world audit0 left0 desk report0 v0 reach0 line0) (audit_world audit1 left1 desk1 report1 v1 reach1 line1)
       reached r = (
         r.0,
         r.1,
@@ -411,25 +427,26 @@ module _ {K T : Type 0} (k : Ghosts K T) {V : Type 0} (view : K → V) (m : Mode
             ),
       )
 
-      by : IsStop (audit_world audit1 left1 desk1 report1 v1 reach1) → EndsAt (audit_world audit0 left0 desk report0 v0 reach0) (audit_world audit1 left1 desk1 report1 v1 reach1)
+      by : IsStop (audit_world audit1 left1 desk1 report1 v1 reach1 line1) → EndsAt (audit_world audit0 left0 desk report0 v0 reach0 line0) (audit_world audit1 left1 desk1 report1 v1 reach1 line1)
       by (n, inl stop) = known (one n stop)
       by (n, inr stop) = reached (two n stop)
 
   -- the extension answered, and the report has its texts
-  pub answered : (audit0 audit1 : Audit) (left0 left1 : List ℕ) (desk mid desk1 : K) (report0 report1 : Option (List ℕ)) (v0 v1 : SideVerdict) (reach0 reach1 : Option Reach) (taken : Option (List ℕ)) (own : k.Own) (first : Next)
-      → (Fails : ℕ → List ℕ → Reply → Type 0) → Tells Fails → keeps audit1 ≡ keeps audit0 → k.IsOwn own line → k.Begins desk own first mid → first ≢ Stop
+  pub answered : (line0 line1 : ℕ) (audit0 audit1 : Audit) (left0 left1 : List ℕ) (desk mid desk1 : K) (report0 report1 : Option (List ℕ)) (v0 v1 : SideVerdict) (reach0 reach1 : Option Reach) (taken : Option (List ℕ)) (own : k.Own) (first : Next)
+      → (Fails : ℕ → List ℕ → Reply → Type 0) → Tells Fails → OneMore line0 line1 → keeps audit1 ≡ keeps audit0 → k.IsOwn own line → k.Begins desk own first mid → first ≢ Stop
       → reach1 ≡ reach0 → OwnLeaves Fails audit0 left0 mid first report0 (λ τ new told. IsMet view τ audit1 left1 desk1 new × (report1 ≡ Some told))
       → StopsLeave audit0 left0 mid first report0 None (λ L kept. ⊥)
       → AtEachSeen audit0 (λ τ H. AskedSo k τ (world (place H left0) mid) audit1 left1 desk1 first Say)
-      → Consumes report0 report1 (flat_map ended (k.texts desk1)) → AllByRecursion IsText (k.texts desk1) → End None (audit_world audit0 left0 desk report0 v0 reach0) (audit_world audit1 left1 desk1 report1 v1 reach1) taken taken
-  answered audit0 audit1 left0 left1 desk mid desk1 report0 report1 v0 v1 reach0 reach1 taken own first Fails tells kept is begins goes reach leaves stops asked read each = LineEnd.did (record {
+      → Consumes report0 report1 (flat_map ended (k.texts desk1)) → AllByRecursion IsText (k.texts desk1) → End None (audit_world audit0 left0 desk report0 v0 reach0 line0) (audit_world audit1 left1 desk1 report1 v1 reach1 line1) taken taken
+  answered line0 line1 audit0 audit1 left0 left1 desk mid desk1 report0 report1 v0 v1 reach0 reach1 taken own first Fails tells one kept is begins goes reach leaves stops asked read each = LineEnd.did (record {
     trace_step = Own line own (k.texts desk1);
     line_is = refl;
     is = (is, each);
     did = record {
       kept = kept;
       reach = reach;
-      took = (audit_world audit1 left1 desk1 report1 v1 reach1, read, refl);
+      lines = one;
+      took = (audit_world audit1 left1 desk1 report1 v1 reach1 line1, read, refl);
       may = λ τ H texts history sees.
           let so = asked τ H texts history sees in (
             so.steps,
@@ -457,21 +474,22 @@ module _ {K T : Type 0} (k : Ghosts K T) {V : Type 0} (view : K → V) (m : Mode
       subst (λ (o : SideStatus). Reported (Some o) (e ≢ ev.End) (e ≡ ev.End) ⊥ [] taken taken) (sym end.0) (end.1, Appends-nil taken)
 
   -- an event got an answer that the auditor took
-  pub heard : {A : Type 0} (IsOf : A → Turn → Type 0) (told : A) (audit0 audit1 : Audit) (left0 left1 : List ℕ) (desk desk1 : K) (report0 report1 : Option (List ℕ)) (v0 v1 : SideVerdict) (reach0 reach1 : Option Reach) (taken : Option (List ℕ)) (e : Event) (answer : List ℕ) (outcome : Option SideStatus)
-      → IsOneLine answer → reach1 ≡ reach0
+  pub heard : {A : Type 0} (IsOf : A → Turn → Type 0) (told : A) (line0 line1 : ℕ) (audit0 audit1 : Audit) (left0 left1 : List ℕ) (desk desk1 : K) (report0 report1 : Option (List ℕ)) (v0 v1 : SideVerdict) (reach0 reach1 : Option Reach) (taken : Option (List ℕ)) (e : Event) (answer : List ℕ) (outcome : Option SideStatus)
+      → OneMore line0 line1 → IsOneLine answer → reach1 ≡ reach0
       → ((bytes : List ℕ) → report0 ≡ Some bytes → EachLeft e left0 bytes audit0 (λ L. ⊥))
       → keeps audit1 ≡ keeps audit0 → IsLineOf e line → k.Passes desk line → ((turn : Turn) → IsOf told turn → k.Sees desk e turn desk1)
       → TakesLine IsOf told e answer audit0 audit1 left0 left1 → Consumes report0 report1 (ended answer)
       → IfNone outcome (e ≢ ev.End) → IfSome outcome (λ s. (s ≡ Run status.Done) × (e ≡ ev.End))
-      → End outcome (audit_world audit0 left0 desk report0 v0 reach0) (audit_world audit1 left1 desk1 report1 v1 reach1) taken taken
-  heard IsOf told audit0 audit1 left0 left1 desk desk1 report0 report1 v0 v1 reach0 reach1 taken e answer outcome answer_one reach unstopped kept is passes sees_it takes read goes end = LineEnd.did (record {
+      → End outcome (audit_world audit0 left0 desk report0 v0 reach0 line0) (audit_world audit1 left1 desk1 report1 v1 reach1 line1) taken taken
+  heard IsOf told line0 line1 audit0 audit1 left0 left1 desk desk1 report0 report1 v0 v1 reach0 reach1 taken e answer outcome one answer_one reach unstopped kept is passes sees_it takes read goes end = LineEnd.did (record {
     trace_step = Heard line e answer;
     line_is = refl;
     is = is;
     did = record {
       kept = kept;
       reach = reach;
-      took = (audit_world audit1 left1 desk1 report1 v1 reach1, read, refl);
+      lines = one;
+      took = (audit_world audit1 left1 desk1 report1 v1 reach1 line1, read, refl);
       may = λ τ H texts history sees.
           let w = takes τ H texts history sees in
           let d = w.0 in

@@ -338,7 +338,7 @@ module _ {K T : Type 0} (k : Ghosts K T) {V : Type 0} (view : K → V) (m : Mode
         open_or_known (Passed line) ends is = absurd ends
         open_or_known (Heard line e answer) ends is = absurd ends
         open_or_known (audit.Own line own texts) ends is = absurd ends
-        open_or_known (Begun line told at) ends is = is
+        open_or_known (Begun line told at) ends is = is.1
         open_or_known (Ended line at) ends is = is.1
 
         pub at_last : (IsKnown k.IsOwn (audit_line last) → IsOpen w1.reach w1.verdict) → IsOpen w1.reach w1.verdict

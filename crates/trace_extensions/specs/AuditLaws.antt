@@ -1,5 +1,6 @@
 -- An audit has the lines of a line handler.
-use Rattle.std.proofs.Common.{◌≡◌, inl, inr, ℕ, List, [], ◌∷◌, ◌++◌, Option, Some, refl, sym, ◌∙◌, ap, subst}
+use Rattle.std.proofs.Common.{◌≡◌, inl, inr, ℕ, List, [], ◌∷◌, ◌++◌, Option, Some, refl, sym, ◌∙◌, ap, subst, arith}
+use Rattle.std.proofs.lemmas.List.{length-append}
 use Rattle.bench_base.specs.Ledger.{Ledger}
 use Rattle.ledger_moves.specs.Tariffs.{Tariff}
 use Rattle.line_runs.specs.Trace.{FitsGrammar}
@@ -60,6 +61,7 @@ module _ {K T : Type 0} (k : Ghosts K T) where
     both x y z a b p q = record {
       kept = q.kept ∙ p.kept;
       reach = q.reach ∙ p.reach;
+      lines = λ few. omega (arith, few, length-append a b, p.lines (omega (arith, few, length-append a b)), q.lines (omega (arith, few, length-append a b, p.lines (omega (arith, few, length-append a b)))));
       took = took_both x y z a b p.took q.took;
       may = λ τ H texts history sees. may_both τ (stop_fits view m τ) (IsSeenAt τ y.audit y.rates y.desk) (IsSeenAt τ z.audit z.rates z.desk) a b
           (λ at seen. subst (λ (w : World Place K). MayDo k τ (stop_fits view m τ) (IsSeenAt τ z.audit z.rates z.desk) w b)
@@ -78,6 +80,7 @@ module _ {K T : Type 0} (k : Ghosts K T) where
       nothing = λ w. record {
         kept = refl;
         reach = refl;
+        lines = λ few. omega arith;
         took = refl;
         may = λ τ H texts history sees. record { history = history; sees = sees; left = refl; desk = refl };
         only = λ τ H texts history sees. (record { history = history; sees = sees; left = refl; kept = refl }, refl);

@@ -142,6 +142,10 @@ IsUndecided reach verdict = EndsEarly reach verdict ⊎ ((n : ℕ) × (verdict �
 abbrev pub SaysStopped : SideVerdict → Type 0
 SaysStopped verdict = (n : ℕ) × ((verdict ≡ Stopped n) ⊎ (verdict ≡ StoppedInOwn n))
 
+-- at the line of this number, if so
+abbrev pub IsNumbered : SideVerdict → ℕ → Type 0
+IsNumbered verdict number = (n : ℕ) → (verdict ≡ Stopped n) ⊎ (verdict ≡ StoppedInOwn n) → n ≡ number
+
 module _ {V : Type 0} (m : Model V) where
   -- A RUN MAY HAVE BEEN STOPPED SO, over this ledger, with this kept before it: the lines before one of the script were done and answered, and at that line
   -- it was stopped. AtLine says how a line is stopped.
@@ -191,11 +195,12 @@ module _ {V : Type 0} (m : Model V) where
 
   -- These rates were left, and this was kept before the run and after it; the auditor had this before, and has that.
   module _ (script report : Option (List ℕ)) (rates : List ℕ) (v w : V) (old new : Audit) (verdict : SideVerdict) (reach : Option Reach) where
-    -- IF IT IS STOPPED, a run may have been stopped so, from each history that the auditor had; and what that leaves is seen and kept
+    -- IF IT IS STOPPED, a run may have been stopped so, from each history that the auditor had, at the line that is named; and what that leaves is seen and
+    -- kept
     abbrev pub FitsIfStopped : Type 0
     FitsIfStopped = AtKnown m script report (λ text told. SaysStopped verdict
         → AtSeen old (λ τ H. (fits : FitsStopped (λ at line told K kept. StopsAt m τ at line told K kept) τ H text told rates v)
-        × History τ editions fits.ledger × SeesBetween new fits.ledger × m.Alike w fits.kept))
+        × History τ editions fits.ledger × SeesBetween new fits.ledger × m.Alike w fits.kept × IsNumbered verdict (length fits.trace + 1)))
 
     -- IF A RUN MAY HAVE BEEN STOPPED AT AN EVENT, from a history that the auditor had, it is called so
     abbrev pub StoppedIfFits : Type 0

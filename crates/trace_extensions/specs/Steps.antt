@@ -11,10 +11,11 @@ use Rattle.line_extensions.specs.Desks.{side_grammar}
 use Rattle.line_extensions.specs.declared.extension.Extension.{Ghosts}
 use Rattle.trace_bench.specs.Seeing.{Audit}
 use Rattle.trace_extensions.specs.Fits.{IsOpen, IsText}
-use Rattle.trace_extensions.specs.FitsStopped.{SaysStopped}
+use Rattle.trace_extensions.specs.FitsStopped.{IsNumbered, SaysStopped}
 use Rattle.trace_extensions.specs.declared.{papers.Reach.Reach, papers.SideVerdict.SideVerdict}
 
--- the auditor, the rates that are left, the extension, what is left of the report, what is said if the audit ended, and how far the run is said to have come
+-- the auditor, the rates that are left, the extension, what is left of the report, what is said if the audit ended, how far the run is said to have come, and
+-- how many lines of the script were judged
 pub record AuditWorld (K : Type 0) : Type 0 where
   pub audit : Audit
   pub rates : List ℕ
@@ -22,10 +23,11 @@ pub record AuditWorld (K : Type 0) : Type 0 where
   pub report : Option (List ℕ)
   pub verdict : SideVerdict
   pub reach : Option Reach
+  pub line : ℕ
 
-abbrev pub audit_world : {K : Type 0} → Audit → List ℕ → K → Option (List ℕ) → SideVerdict → Option Reach → AuditWorld K
-audit_world audit rates desk report verdict reach =
-    record { audit = audit; rates = rates; desk = desk; report = report; verdict = verdict; reach = reach }
+abbrev pub audit_world : {K : Type 0} → Audit → List ℕ → K → Option (List ℕ) → SideVerdict → Option Reach → ℕ → AuditWorld K
+audit_world audit rates desk report verdict reach line =
+    record { audit = audit; rates = rates; desk = desk; report = report; verdict = verdict; reach = reach; line = line }
 
 -- the run was stopped, and what may have been done is told
 abbrev pub IsStop : {K : Type 0} → AuditWorld K → Type 0
@@ -64,7 +66,7 @@ module _ {L K : Type 0} where
   AuditIsOf IsOwn (Passed line) = IsSkipped line
   AuditIsOf IsOwn (Heard line e answer) = IsLineOf e line
   AuditIsOf IsOwn (Own line own texts) = IsOwn own line × AllByRecursion IsText texts
-  AuditIsOf IsOwn (Begun line told left) = IsOpen left.reach left.verdict ⊎ IsKnown IsOwn line
+  AuditIsOf IsOwn (Begun line told left) = IsNumbered left.verdict left.line × (IsOpen left.reach left.verdict ⊎ IsKnown IsOwn line)
   AuditIsOf IsOwn (Ended line left) = (IsStop left → ⊥) × (IsOpen left.reach left.verdict ⊎ IsKnown IsOwn line)
 
   abbrev pub AuditIsEnd : AuditStep L K → Type 0

@@ -1,5 +1,5 @@
 -- What an audit of a run with an extension works on, and what it did for the lines.
-use Rattle.std.specs.Prelude.{◌≡◌, ◌⊎◌, ℕ, List, [], ◌∷◌, Option}
+use Rattle.std.specs.Prelude.{◌≡◌, ◌⊎◌, ◌<◌, ◌+◌, ◌^◌, ℕ, List, [], ◌∷◌, Option, length}
 use Rattle.std.specs.Io.KnownBytes.{Consumes, IsAtEnd}
 use Rattle.bench_base.specs.declared.events.Event.{Event}
 use Rattle.bench_base.specs.Ledger.{Ledger}
@@ -156,6 +156,7 @@ module _ {K T : Type 0} (k : Ghosts K T) {V : Type 0} (view : K → V) (m : Mode
   pub record DidAudit (old new : AuditWorld K) (trace : List (AuditStep k.Own K)) : Type 0 where
     pub kept : keeps new.audit ≡ keeps old.audit
     pub reach : new.reach ≡ old.reach
+    pub lines : old.line + length trace < 2 ^ 32 → new.line ≡ old.line + length trace
     pub took : Took k old new trace
     pub may : AtEachSeen old.audit (λ τ H. MayDo k τ (stop_fits view m τ) (IsSeenAt τ new.audit new.rates new.desk) (world (place H old.rates) old.desk) trace)
     pub only : AtEachSeen old.audit (λ τ H. Only k view m τ (IsMetIn view τ new) (world (place H old.rates) (view old.desk)) old.report trace)

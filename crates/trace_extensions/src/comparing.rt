@@ -41,6 +41,7 @@ fn compare_next<R: Source>(papers: &mut Papers<R>, text: &[u8]) -> Compared
         → (result ≡ Compared.Open) ⊎ (result ≡ Compared.Fault) }
     ensures text { result ≡ Compared.Same → IsText text.now }
     ensures reach { papers.new.reach ≡ papers.old.reach }
+    ensures line { papers.new.line ≡ papers.old.line }
 {
     let mut buf = [0; 600];
     match read_line(&mut papers.report, &mut buf) {
@@ -74,7 +75,9 @@ fn is_same<R: Source>(number: u32, papers: &mut Papers<R>, text: Line, compared:
     ensures fault { compared ≡ Compared.Fault → MatchBool result ⊥ (IsCutShort papers.new.verdict) }
     ensures goes_on { compared ≡ Compared.Same → result ≡ true }
     ensures stops { compared ≡ Compared.Open → (result ≡ false) × (papers.new.verdict ≡ Verdict.Stopped number) }
+    ensures number { result ≡ false → (n : ℕ) → papers.new.verdict ≡ Verdict.Stopped n → n ≡ number }
     ensures reach { papers.new.reach ≡ papers.old.reach }
+    ensures line { papers.new.line ≡ papers.old.line }
 {
     match compared {
         Compared::Same => return true,
@@ -105,7 +108,9 @@ fn rest_fits<D: Extension, R: Source>(number: u32, desk: &D, papers: &mut Papers
     ensures stops { (first : List ℕ) (more : List (List ℕ)) (told : List ℕ) → D.texts desk.now ≡ first ∷ more → IsCutOf told more
         → ⟦<ReadAhead<R> as Source>⟧.left papers.old.report ≡ Some told → MatchBool result ⊥ (IsCalledStopped number papers.new.verdict) }
     ensures texts { result ≡ true → (first : List ℕ) (more : List (List ℕ)) → D.texts desk.now ≡ first ∷ more → AllByRecursion IsText more }
+    ensures number { result ≡ false → (n : ℕ) → papers.new.verdict ≡ Verdict.Stopped n → n ≡ number }
     ensures reach { papers.new.reach ≡ papers.old.reach }
+    ensures line { papers.new.line ≡ papers.old.line }
 {
     for at in 1..desk.count() {
         let mut text = Line::new();
@@ -138,7 +143,9 @@ pub(crate) fn answer_fits<D: Extension, R: Source>(
     ensures stops { (more : List (List ℕ)) (told : List ℕ) → D.texts desk.now ≡ first.now ∷ more → IsCutOf told more
         → ⟦<ReadAhead<R> as Source>⟧.left papers.old.report ≡ Some told → MatchBool result ⊥ (IsCalledStopped number papers.new.verdict) }
     ensures texts { result ≡ true → IsText first.now → AllByRecursion IsText (D.texts desk.now) }
+    ensures number { result ≡ false → (n : ℕ) → papers.new.verdict ≡ Verdict.Stopped n → n ≡ number }
     ensures reach { papers.new.reach ≡ papers.old.reach }
+    ensures line { papers.new.line ≡ papers.old.line }
 {
     if desk.count() == 0 {
         papers.end(SideVerdict::Wrong(number));
@@ -185,6 +192,7 @@ pub(crate) fn answer_begins<D: Extension, R: Source>(
     ensures begins { (text : List ℕ) (more : List (List ℕ)) → D.texts desk.now ≡ text ∷ more → IsPrefixOf prefix.now text
         → papers.new.verdict ≡ verdict }
     ensures reach { papers.new.reach ≡ papers.old.reach }
+    ensures line { papers.new.line ≡ papers.old.line }
 {
     if desk.count() == 0 {
         return papers.end(SideVerdict::Wrong(number));

@@ -102,7 +102,9 @@ fn own_fits<R: Source, D: TracedExtension>(
     ensures stops { AtEachSeen (audit_of auditor.old) (λ τ H. (told : List ℕ) → IsText answer.now → ⟦<ReadAhead<R> as Source>⟧.left papers.old.report ≡ Some told
         → EachOwnLeft D.model τ (place H (left_of rates.old)) (D.view desk.old) first (ended answer.now ++ told) None (λ K kept. MatchBool result ⊥
         (TellsOwnStop D.model papers.new.reach papers.new.verdict (audit_of auditor.new) (D.view desk.new) K kept))) }
+    ensures number { result ≡ false → (n : ℕ) → papers.new.verdict ≡ Verdict.Stopped n → n ≡ number }
     ensures reach { papers.new.reach ≡ papers.old.reach }
+    ensures line { papers.new.line ≡ papers.old.line }
 {
     D::laws();
     match ask_all(
@@ -169,7 +171,10 @@ fn own_line<R: Source, D: TracedExtension>(
         → MatchBool result (EachOwnLeft D.model τ (place H (left_of rates.old)) (D.view desk.old) first told None (λ K kept. ⊥))
         (EachOwnLeft D.model τ (place H (left_of rates.old)) (D.view desk.old) first told papers.new.reach
         (TellsOwnStop D.model papers.new.reach papers.new.verdict (audit_of auditor.new) (D.view desk.new)))) }
+    ensures number { result ≡ false → (n : ℕ) → papers.new.verdict ≡ Verdict.Stopped n → n ≡ number }
+    ensures own_number { result ≡ false → (n : ℕ) → papers.new.verdict ≡ Verdict.StoppedInOwn n → n ≡ number }
     ensures reach { papers.new.reach ≡ papers.old.reach }
+    ensures line { papers.new.line ≡ papers.old.line }
 {
     let mut buf = [0; 600];
     match read_line(&mut papers.report, &mut buf) {
@@ -215,7 +220,7 @@ impl<R: Source, D: TracedExtension> LineHandler for AtReport<R, D> {
     ghost World = { AuditWorld D };
 
     ghost world = { λ desk auditor rates papers. audit_world (audit_of auditor) (left_of rates) desk (⟦<ReadAhead<R> as Source>⟧.left papers.report)
-        papers.verdict papers.reach };
+        papers.verdict papers.reach papers.line };
 
     ghost IsReady = { λ w. IsReady w.audit };
 
@@ -244,13 +249,15 @@ impl<R: Source, D: TracedExtension> LineHandler for AtReport<R, D> {
         _report: &mut K,
     ) -> Option<SideStatus> {
         D::laws();
-        papers.line = number;
+        let before = papers.line;
+        papers.line = before.saturating_add(1);
+        let here = papers.line;
         papers.transcript.begin(number, line);
         if is_skipped(line) {
             return None;
         }
-        if papers.is_unbegun(number) {
-            own_unbegun(number, papers);
+        if papers.is_unbegun(here) {
+            own_unbegun(here, papers);
             papers.is_own_stop = true;
             return Some(SideStatus::Stopped);
         }
@@ -266,7 +273,7 @@ impl<R: Source, D: TracedExtension> LineHandler for AtReport<R, D> {
                     papers.end(SideVerdict::Memory);
                     return Some(SideStatus::Stopped);
                 }
-                if own_line(alloc, number, first, desk, auditor, rates, papers) {
+                if own_line(alloc, here, first, desk, auditor, rates, papers) {
                     None
                 } else {
                     papers.is_own_stop = true;
@@ -278,7 +285,7 @@ impl<R: Source, D: TracedExtension> LineHandler for AtReport<R, D> {
                     papers.transcript.event(line);
                     let mut buf = [0; 600];
                     match answer::<D::Heard, R>(
-                        alloc, auditor, rates, papers, number, event, &mut buf,
+                        alloc, auditor, rates, papers, here, event, &mut buf,
                     ) {
                         Some(answered) => {
                             desk.see(event, &answered.told);
@@ -287,7 +294,11 @@ impl<R: Source, D: TracedExtension> LineHandler for AtReport<R, D> {
                         None => Some(SideStatus::Stopped),
                     }
                 }
-                Err(_) => Some(SideStatus::Run(Status::Script(number))),
+                Err(_) => {
+                    // It is no line that was judged.
+                    papers.line = before;
+                    Some(SideStatus::Run(Status::Script(number)))
+                }
             },
         }
     }

@@ -127,6 +127,7 @@ impl<R: Source> Papers<R> {
         ensures report { self.new.report ≡ self.old.report }
         ensures verdict { self.new.verdict ≡ verdict }
         ensures reach { self.new.reach ≡ self.old.reach }
+        ensures line { self.new.line ≡ self.old.line }
     {
         self.verdict = verdict;
     }

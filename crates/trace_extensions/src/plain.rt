@@ -51,6 +51,7 @@ pub(crate) fn miss<R: Source>(papers: &mut Papers<R>, number: u32, miss: Miss)
     ensures in_own { (n : ℕ) → papers.new.verdict ≢ Verdict.StoppedInOwn n }
     ensures open { IsOpenMiss miss → IsCutShort papers.new.verdict }
     ensures reach { papers.new.reach ≡ papers.old.reach }
+    ensures line { papers.new.line ≡ papers.old.line }
 {
     if let Miss::Wrong(due) = &miss {
         papers.due = write_reply(due);
@@ -83,7 +84,9 @@ fn stopped<R: Source>(
         (IsCutShort papers.new.verdict ⊎ (length prefix.now ≤ 256)) }
     ensures stops { EachLeft event.now (left_of rates.now) prefix.now (audit_of auditor.old)
         (λ K. ((papers.new.verdict ≡ Verdict.Stopped number) × SeesBetween (audit_of auditor.new) K) ⊎ IsCutShort papers.new.verdict) }
+    ensures number { (n : ℕ) → papers.new.verdict ≡ Verdict.Stopped n → n ≡ number }
     ensures reach { papers.new.reach ≡ papers.old.reach }
+    ensures line { papers.new.line ≡ papers.old.line }
 {
     histories();
     let open = open_in(event, due_mark(auditor, event), prefix);
@@ -123,6 +126,7 @@ fn heard<T: Tell, R: Source>(
     ensures missed { IfNone result (EachReply event.now (left_of rates.old) (audit_of auditor.old) (λ text. text ≡ line.now)
         (IsCutShort papers.new.verdict)) }
     ensures reach { papers.new.reach ≡ papers.old.reach }
+    ensures line { papers.new.line ≡ papers.old.line }
 {
     let given = given_in(event, due_mark(auditor, event), line);
     match take(alloc, auditor, rates, event, line) {
@@ -181,7 +185,9 @@ pub(crate) fn answer<T: Tell, R: Source>(
     ensures stops { IfNone result ((told : List ℕ) → ⟦<ReadAhead<R> as Source>⟧.left papers.old.report ≡ Some told
         → EachLeft event.now (left_of rates.old) told (audit_of auditor.old)
         (λ K. ((papers.new.verdict ≡ Verdict.Stopped number) × SeesBetween (audit_of auditor.new) K) ⊎ IsCutShort papers.new.verdict)) }
+    ensures number { IfNone result ((n : ℕ) → papers.new.verdict ≡ Verdict.Stopped n → n ≡ number) }
     ensures reach { papers.new.reach ≡ papers.old.reach }
+    ensures line { papers.new.line ≡ papers.old.line }
 {
     match read_line(&mut papers.report, buf) {
         LineRead::Line(len, true) => {

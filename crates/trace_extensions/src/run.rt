@@ -100,6 +100,7 @@ pub fn judge_side<S: Source, R: Source, D: TracedExtension>(
 {
     D::laws();
     auditor.begin();
+    papers.line = 0;
     let mut left = RatesLeft::new(rates);
     let mut nothing = MemSink::new(Vec::new(alloc), Vec::new(alloc), Vec::new(alloc));
     match run_lines::<AtReport<R, D>, ReadAhead<S>, MemSink>(
@@ -112,7 +113,10 @@ pub fn judge_side<S: Source, R: Source, D: TracedExtension>(
         &mut nothing,
     ) {
         SideStatus::Run(Status::Done) => over(papers, Ending::Done),
-        SideStatus::Run(Status::Script(line)) => over(papers, Ending::Script(line)),
+        SideStatus::Run(Status::Script(line)) => {
+            papers.line = line;
+            over(papers, Ending::Script(line))
+        }
         SideStatus::Run(Status::TooLong) => over(papers, Ending::TooLong),
         SideStatus::Run(Status::ReadFault) => SideVerdict::Unread(Input::Script),
         SideStatus::Run(Status::Words | Status::WriteFault | Status::Memory) => SideVerdict::Memory,

@@ -53,7 +53,9 @@ pub(crate) fn own_unbegun<R: Source>(number: u32, papers: &mut Papers<R>)
     ensures in_own { (n : ℕ) → papers.new.verdict ≡ Verdict.StoppedInOwn n
         → Consumes (⟦<ReadAhead<R> as Source>⟧.left papers.old.report) (⟦<ReadAhead<R> as Source>⟧.left papers.new.report) []
         × IsAtEnd (⟦<ReadAhead<R> as Source>⟧.left papers.new.report) }
+    ensures own_number { (n : ℕ) → papers.new.verdict ≡ Verdict.StoppedInOwn n → n ≡ number }
     ensures reach { papers.new.reach ≡ papers.old.reach }
+    ensures line { papers.new.line ≡ papers.old.line }
     ensures only { (byte : ℕ) (more : List ℕ) → ⟦<ReadAhead<R> as Source>⟧.left papers.old.report ≡ Some (byte ∷ more)
         → (papers.new.verdict ≡ Verdict.PastReach number) ⊎ IsCutShort papers.new.verdict }
     ensures stops { ⟦<ReadAhead<R> as Source>⟧.left papers.old.report ≡ Some []
@@ -96,7 +98,9 @@ fn own_done<R: Source, D: TracedExtension>(
         → AreToldOf D.Fails 1 prefix.now steps → D.model.texts mid.desk ≡ text ∷ more → IsPrefixOf prefix.now text
         → ((papers.new.verdict ≡ Verdict.Stopped number) × IsMet D.view τ (audit_of auditor.new) (left_of rates.new) desk.new mid)
         ⊎ IsCutShort papers.new.verdict) }
+    ensures number { (n : ℕ) → papers.new.verdict ≡ Verdict.Stopped n → n ≡ number }
     ensures reach { papers.new.reach ≡ papers.old.reach }
+    ensures line { papers.new.line ≡ papers.old.line }
 {
     D::laws();
     match ask_all(
@@ -138,7 +142,9 @@ fn step_open<R: Source>(
         → AtEachSeen (audit_of auditor.old) (λ τ H. StepLeft τ (place H (left_of rates.now)) event.now (audit_of auditor.new)) }
     ensures stops { AtEachSeen (audit_of auditor.old) (λ τ H. (K : Ledger) → LeftByStep τ (place H (left_of rates.now)) event.now K
         → ((papers.new.verdict ≡ Verdict.StoppedInOwn number) × SeesBetween (audit_of auditor.new) K) ⊎ IsCutShort papers.new.verdict) }
+    ensures own_number { (n : ℕ) → papers.new.verdict ≡ Verdict.StoppedInOwn n → n ≡ number }
     ensures reach { papers.new.reach ≡ papers.old.reach }
+    ensures line { papers.new.line ≡ papers.old.line }
 {
     histories();
     match take_prefix(alloc, auditor, rates, event, &[]) {
@@ -184,7 +190,9 @@ fn step_failed<R: Source, D: TracedExtension>(
         → FailsAt D.model D.Fails τ (world (place H (left_of rates.old)) (D.view desk.old)) mid event.now step line → IsPrefixOf prefix.now line
         → ((papers.new.verdict ≡ Verdict.StoppedInOwn number) × SeesBetween (audit_of auditor.new) mid.scene.ledger
         × D.model.Alike (D.view desk.new) mid.desk) ⊎ IsCutShort papers.new.verdict) }
+    ensures own_number { (n : ℕ) → papers.new.verdict ≡ Verdict.StoppedInOwn n → n ≡ number }
     ensures reach { papers.new.reach ≡ papers.old.reach }
+    ensures line { papers.new.line ≡ papers.old.line }
 {
     D::laws();
     let Some(failure) = D::failure_in(step, prefix) else {
@@ -230,7 +238,9 @@ fn own_reached<R: Source, D: TracedExtension>(
     ensures stops { IsOneLine prefix.now → AtEachSeen (audit_of auditor.old) (λ τ H. EachOwnLeft D.model τ (place H (left_of rates.old))
         (D.view desk.old) first prefix.now (Some (reached number steps))
         (TellsOwnStop D.model papers.new.reach papers.new.verdict (audit_of auditor.new) (D.view desk.new))) }
+    ensures own_number { (n : ℕ) → papers.new.verdict ≡ Verdict.StoppedInOwn n → n ≡ number }
     ensures reach { papers.new.reach ≡ papers.old.reach }
+    ensures line { papers.new.line ≡ papers.old.line }
 {
     D::laws();
     let sent = auditor.message_count();
@@ -286,7 +296,10 @@ pub(crate) fn own_begun<R: Source, D: TracedExtension>(
     ensures stops { IsOneLine prefix.now → AtEachSeen (audit_of auditor.old) (λ τ H. EachOwnLeft D.model τ (place H (left_of rates.old))
         (D.view desk.old) first prefix.now papers.new.reach
         (TellsOwnStop D.model papers.new.reach papers.new.verdict (audit_of auditor.new) (D.view desk.new))) }
+    ensures number { (n : ℕ) → papers.new.verdict ≡ Verdict.Stopped n → n ≡ number }
+    ensures own_number { (n : ℕ) → papers.new.verdict ≡ Verdict.StoppedInOwn n → n ≡ number }
     ensures reach { papers.new.reach ≡ papers.old.reach }
+    ensures line { papers.new.line ≡ papers.old.line }
 {
     D::laws();
     if !desk.is_in_doubt(&first, prefix) {

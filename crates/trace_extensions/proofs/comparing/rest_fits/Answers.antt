@@ -69,6 +69,7 @@ loop-at-preserved g c = record {
       goes_on (drop c.loop-at.at more) c.put.new.line c.as_slice.result.now _ _ c.compare_next-compared.result c.as_slice.ensures (c.is_same.ensures.same c.if-not-is_same.false) c.compare_next-compared.ensures.stops
       c.compare_next-compared.ensures.only (next_cut (g.D.Extension.texts c.args.desk.now) c.loop-at.at c.put.new.line _ _ c.loop-at.invariant.some c.put.ensures.text c.loop-at.invariant.cut first more told are cut is)));
   reach = c.is_same.ensures.reach ∙ c.compare_next-compared.ensures.reach ∙ c.loop-at.invariant.reach;
+  line = c.is_same.ensures.line ∙ c.compare_next-compared.ensures.line ∙ c.loop-at.invariant.line;
 }
 
 pub returns-then-not-is_same-clause-open : goal.returns-then-not-is_same-clause-open
@@ -112,3 +113,9 @@ returns-clause-stops g c = λ first more told are cut is.
 
 pub returns-clause-reach : goal.returns-clause-reach
 returns-clause-reach g c = c.loop-at.invariant.reach
+
+pub returns-then-not-is_same-clause-line : goal.returns-then-not-is_same-clause-line
+returns-then-not-is_same-clause-line g c = c.is_same.ensures.line ∙ c.compare_next-compared.ensures.line ∙ c.loop-at.invariant.line
+
+pub returns-clause-line : goal.returns-clause-line
+returns-clause-line g c = c.loop-at.invariant.line

@@ -19,4 +19,5 @@ invariant-loop-at g l = record {
       (prepend_known (take (l.fn.papers.report.end - l.fn.papers.report.at) (drop l.fn.papers.report.at l.fn.papers.report.buffer.items)) (g.R.Source.left l.fn.papers.report.inner))
       (prepend_known (take (l.papers.report.end - l.papers.report.at) (drop l.papers.report.at l.papers.report.buffer.items)) (g.R.Source.left l.papers.report.inner));
   reach : l.papers.reach ≡ l.fn.papers.reach;
+  line : l.papers.line ≡ l.fn.papers.line;
 }

@@ -1,4 +1,4 @@
-use Rattle.std.proofs.Common.{inl, inr}
+use Rattle.std.proofs.Common.{inl, inr, refl}
 use Rattle.trace_bench.specs.Seeing.{audit_of}
 use Rattle.line_runs.specs.declared.status.Status.TheVariants as status
 use Rattle.trace_runs.specs.declared.verdict.Ending.TheVariants as ends
@@ -6,7 +6,7 @@ use Rattle.trace_extensions.proofs.Stopped.{may_have_stopped}
 use Rattle.trace_extensions.proofs.Ran.{may_have_ended}
 use Rattle.trace_extensions.proofs.RunFits.{complete_open, complete_whole, complete_stopped, fitting, never_lawful}
 use Rattle.trace_extensions.proofs.StoppedFits.{end_stops, end_own_stops, line_stops, line_own_stops, cut_stops, cut_own_stops}
-use Rattle.trace_extensions.proofs.StoppedRuns.{never_said, never_stopped, said_too, stop_fitted}
+use Rattle.trace_extensions.proofs.StoppedRuns.{never_said, never_stopped, stop_fitted}
 use Rattle.trace_extensions.proofs.run.judge_side.Goals as goal
 
 pub returns-in-Run-Done-clause-sound : goal.returns-in-Run-Done-clause-sound
@@ -148,7 +148,7 @@ returns-in-Run-TooLong-clause-fits_stopped g c = never_stopped g.D.Extension g.D
 pub returns-clause-fits_stopped : goal.returns-clause-fits_stopped
 returns-clause-fits_stopped g c =
     stop_fitted g.D.Extension g.D.TracedExtension.view g.D.TracedExtension.model c.laws.ensures.modelled g.met.D.Extension.alone _ _ _ _ _ _ c.in-Stopped.ensures.ran (audit_of c.args.auditor.now) c.args.rates.items c.new-left.ensures
-    (λ H between. between.alike (audit_of c.begin.new.self) (c.begin.ensures.sees between.ledger between.sees)) c.unlawful.result (said_too c.unlawful.result _ c.unlawful.ensures.stopped c.unlawful.ensures.in_own)
+    (λ H between. between.alike (audit_of c.begin.new.self) (c.begin.ensures.sees between.ledger between.sees)) refl c.unlawful.result c.unlawful.ensures.stopped c.unlawful.ensures.in_own
 
 pub returns-in-Run-ReadFault-clause-fits_stopped : goal.returns-in-Run-ReadFault-clause-fits_stopped
 returns-in-Run-ReadFault-clause-fits_stopped g c = never_stopped g.D.Extension g.D.TracedExtension.view g.D.TracedExtension.model c.laws.ensures.modelled g.met.D.Extension.alone _ _ c.args.rates.items (g.D.TracedExtension.view c.args.desk.now) _ (audit_of c.args.auditor.now) _ _ c.args.papers.now.reach (never_said _ (λ n is. absurd (cc (is))) (λ n is. absurd (cc (is))))
